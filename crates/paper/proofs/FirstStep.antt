@@ -17,7 +17,7 @@ use Rattle.laws.proofs.Found.{FirstAt, some-none, some-same, orElse-none, orEls
 use Rattle.paper.specs.Timetable.{Tables, routeOf, stopAt, arriveAt, walkFrom, walkTo, walkSeconds}
 use Rattle.paper.specs.Rows.{label, boards}
 use Rattle.paper.specs.Journey.{Ride, Walk, Step, ride, rideWalk}
-use Rattle.paper.specs.Tie.{boardedFirst, leftFirst, tripFirst, routeFirst, walkBetween, walkedFirst, firstStep, boardStop, legOf, keyOf, NotAfter, equal, sooner, further}
+use Rattle.paper.specs.Tie.{First, boardedFirst, leftFirst, tripFirst, routeFirst, walkBetween, walkedFirst, firstStep, boardStop, legOf, keyOf, NotAfter, equal, sooner, further}
 use Rattle.paper.specs.declared.Leg.{Leg}
 use Rattle.paper.specs.declared.After.{After}
 use Rattle.paper.specs.declared.After.the-variants.{Stays, WalksTo}
@@ -123,13 +123,6 @@ module _ (T : Tables) (row : List ℕ) (s c v : ℕ) (after : After) where
             not-after (not-before fi i (board-shows h₃ _)) λ _. equal;
       } in
       subst Found (some-same (pi .1)) at
-
--- the tie rule's step: a last step at p at v that boards where the row permits it, and none comes before it
-pub record First (T : Tables) (row : List ℕ) (p v : ℕ) (g : Leg) : Type 0 where
-  pub reached : label row (boardStop T g) ≢ mark
-  pub the-step : Step T (boardStop T g) (label row (boardStop T g)) p v
-  pub leg≡ : legOf the-step ≡ g
-  pub before-all : (b : ℕ) → label row b ≢ mark → (x : Step T b (label row b) p v) → NotAfter (keyOf the-step) (keyOf x)
 
 -- the ride that was found
 rideOf : {T : Tables} {row : List ℕ} {s c v : ℕ} {after : After} {g : Leg} → Found T row s c v after g → (t : ℕ) →

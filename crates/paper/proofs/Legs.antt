@@ -11,12 +11,12 @@ use Rattle.laws.specs.Below.{mark}
 use Rattle.paper.specs.Timetable.{Tables}
 use Rattle.paper.specs.Rows.{label, rowOf}
 use Rattle.paper.specs.Journey.{Step, Journey, stay, step}
-use Rattle.paper.specs.Tie.{firstStep, boardStop, legsOf, legsOfJourney}
+use Rattle.paper.specs.Tie.{firstStep, boardStop, legsOf, legsOfJourney, First, ByTieRule, no-rides, last}
 use Rattle.paper.specs.declared.Question.{Question}
 use Rattle.paper.specs.declared.Leg.{Leg}
 use Rattle.paper.proofs.Usable.{Usable, Asked}
 use Rattle.paper.proofs.Earliest.{stay-at, last-step, back-earlier}
-use Rattle.paper.proofs.FirstStep.{First, first-step}
+use Rattle.paper.proofs.FirstStep.{first-step, first-unique}
 
 pub no-legs : {T : Tables} {q : Question} {k p u : ℕ} (j : Journey T q k p u) → k ≡ 0 → legsOfJourney j ≡ []
 unfolding legsOfJourney
@@ -64,3 +64,18 @@ module _ (T : Tables) (q : Question) (us : Usable T) (ask : Asked T q) where
 
   pub legs-length : (k p : ℕ) → Gained T q k p → length (legsOf T q k p) ≡ k
   legs-length k p h = let x = legs-journey k p h in ap length (sym (x .1)) ∙ journey-length (x .0)
+
+  -- and are those that the tie rule names
+  pub legs-by-rule : (k p : ℕ) → Gained T q k p → ByTieRule T q k p (legsOf T q k p)
+  legs-by-rule zero p h = unfold legsOf in no-rides
+  legs-by-rule (suc k) p h =
+      let x = read-back k p h in
+      rw (legs-step T q k p (x .0) (x .1)) (last (x .2) (legs-by-rule k (boardStop T (x .0)) (x .3)))
+
+-- the tie rule names one list of legs
+pub by-rule-unique : (T : Tables) (q : Question) {k p : ℕ} {gs hs : List Leg} → ByTieRule T q k p gs → ByTieRule T q k p hs → gs ≡ hs
+by-rule-unique T q no-rides no-rides = refl
+by-rule-unique T q (last {k} {p} {g} {gs} x y) (last {g = h} {gs = hs} u v) =
+    let e : g ≡ h = first-unique T (rowOf T q k) p (label (rowOf T q (suc k)) p) g h x u in
+    let w : ByTieRule T q k (boardStop T g) hs = rw e v in
+    ap₂ {C = List Leg} (λ a l. a ++ (l ∷ [])) (by-rule-unique T q y w) e

@@ -12,3 +12,12 @@ pub mod Rounds
 pub mod FirstStep
 pub mod Legs
 pub mod Entries
+pub mod Listing
+pub mod Written
+pub mod FeedRecords
+pub mod ReadBack
+pub mod FeedTrips
+pub mod FeedRoutes
+pub mod Accepted
+pub mod Damage
+pub mod FeedLongest

@@ -1,5 +1,6 @@
 -- 01, "A journey", its entries and the tie rule.
 use mathlib.Core.Path.{_≡_}
+use mathlib.Core.Logic.{_≢_}
 use mathlib.Core.Bool.{Bool, cond, _&&_}
 use mathlib.Core.List.{List, [], _∷_, _++_}
 use mathlib.Core.Option.{Option, none, some}
@@ -102,3 +103,16 @@ pub data NotAfter : List ℕ → List ℕ → Type 0 where
   equal : NotAfter [] []
   sooner : {x y : ℕ} {xs ys : List ℕ} → x < y → NotAfter (x ∷ xs) (y ∷ ys)
   further : {x y : ℕ} {xs ys : List ℕ} → x ≡ y → NotAfter xs ys → NotAfter (x ∷ xs) (y ∷ ys)
+
+-- the tie rule in 01's words: g is a last step to p at v that boards where the row permits it, and no such step comes before it
+pub record First (T : Tables) (row : List ℕ) (p v : ℕ) (g : Leg) : Type 0 where
+  pub reached : label row (boardStop T g) ≢ mark
+  pub the-step : Step T (boardStop T g) (label row (boardStop T g)) p v
+  pub leg≡ : legOf the-step ≡ g
+  pub before-all : (b : ℕ) → label row b ≢ mark → (x : Step T b (label row b) p v) → NotAfter (keyOf the-step) (keyOf x)
+
+-- "Repeat from the boarding stop with k-1": these are the legs that the tie rule names for k rides that end at p
+pub data ByTieRule (T : Tables) (q : Question) : ℕ → ℕ → List Leg → Type 0 where
+  no-rides : {p : ℕ} → ByTieRule T q 0 p []
+  last : {k p : ℕ} {g : Leg} {gs : List Leg} → First T (rowOf T q k) p (label (rowOf T q (suc k)) p) g →
+      ByTieRule T q k (boardStop T g) gs → ByTieRule T q (suc k) p (gs ++ (g ∷ []))
