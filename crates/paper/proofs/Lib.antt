@@ -21,3 +21,6 @@ pub mod FeedRoutes
 pub mod Accepted
 pub mod Damage
 pub mod FeedLongest
+pub mod Budget
+pub mod Answers
+pub mod Demands
