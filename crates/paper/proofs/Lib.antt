@@ -24,3 +24,5 @@ pub mod FeedLongest
 pub mod Budget
 pub mod Answers
 pub mod Demands
+pub mod Lines
+pub mod Printed

@@ -1,0 +1,35 @@
+-- `dialogue::put_walked` meets its contract.
+use mathlib.Core.Path.{refl}
+use native.Mathlib.Omega.{arith}
+use borrow.Author.Tests.{eq-eqb, ne-eqb}
+use Rattle.laws.specs.Below.{mark}
+use Rattle.dialogue.proofs.Puts.{put-same}
+use Rattle.paper.specs.Lines.{walkedWord}
+use borrow.Author.Needs.{needs}
+use Rattle.dialogue.proofs.put_walked.Statement.{statement}
+use Rattle.dialogue.proofs.put_walked.Tie as tie
+
+put-byte-requires : tie.Need-put-byte-requires
+put-byte-requires c κs = search needs
+
+put-decimal-requires : tie.Need-put-decimal-requires
+put-decimal-requires c κs = search needs
+
+same-length : tie.Need-same-length
+same-length c = search needs
+
+returns : tie.Need-returns
+unfolding walkedWord mark
+returns c = rw (eq-eqb _ _ (c .before .before .before .before .if1 .taken)) (put-same refl (omega arith) (c .before .before .put-byte .ensures))
+
+same-length-2 : tie.Need-same-length-2
+same-length-2 c = search needs
+
+returns-2 : tie.Need-returns-2
+unfolding walkedWord mark
+returns-2 c = rw (ne-eqb _ _ (c .before .before .before .before .if1 .left)) (c .before .before .put-decimal .ensures)
+
+pub put-walked-spec : {M : Type 1} → statement M
+put-walked-spec =
+    tie.close
+    (tie.spec put-byte-requires put-decimal-requires same-length returns same-length-2 returns-2)
