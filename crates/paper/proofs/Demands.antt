@@ -28,6 +28,7 @@ use Rattle.paper.specs.declared.Question.{Question}
 use Rattle.paper.specs.declared.Entry.{Entry}
 use Rattle.paper.specs.declared.Verdict.{Verdict}
 use Rattle.paper.specs.declared.Answer.{Answer}
+use Rattle.paper.proofs.Checks.{none-of}
 use Rattle.paper.proofs.Usable.{Usable, Asked, usable-of}
 use Rattle.paper.proofs.Earliest.{earliest, row-le, row-journey, journey-arrives}
 use Rattle.paper.proofs.Legs.{legs-journey, legs-by-rule, legs-length}
@@ -249,7 +250,7 @@ module _ (T : Tables) (q : Question) (us : Usable T) (ask : Asked T q) where
 abbrev replied : Tables → List ℕ → List ℕ → Question → Asking → Reply
 replied T labels legs q a = record { answer = answerAs T q a; labels = labelsAfter T q a labels; legs = legsAfter T q a legs }
 
-module _ (T : Tables) (labels legs : List ℕ) (q : Question) (r : Ready T labels legs q) (f : faultOf T ≡ none) where
+module _ (T : Tables) (labels legs : List ℕ) (q : Question) (r : Ready T labels legs q) where
   asked-of : Asked T q
   asked-of = record { start< = r .start<; target< = r .target<; time< = r .time< }
 
@@ -267,7 +268,7 @@ module _ (T : Tables) (labels legs : List ℕ) (q : Question) (r : Ready T label
 
   reply-is : {a : Asking} → searched T q ≡ a → replyOf T labels legs q ≡ replied T labels legs q a
   unfolding replyOf
-  reply-is e = rw (ready-asked T labels legs q r f ∙ e)
+  reply-is e = rw (ready-asked T labels legs q r (none-of T (r .sound)) ∙ e)
 
   pub demand2 : workOf T q ≤ q .budget → Demand2 T q (replyOf T labels legs q)
   demand2 h = go (ℕ-discrete (length (entriesOf T q)) 0)
@@ -313,7 +314,7 @@ module _ (T : Tables) (labels legs : List ℕ) (q : Question) (r : Ready T label
       go (inr x) = let z : _≡_ {A = ℕ} 0 1 = cc in absurd (omega arith)
 
 -- a larger budget changes no answer given
-module _ (T : Tables) (labels legs : List ℕ) (q : Question) (r : Ready T labels legs q) (f : faultOf T ≡ none) (b : ℕ) where
+module _ (T : Tables) (labels legs : List ℕ) (q : Question) (r : Ready T labels legs q) (b : ℕ) where
   ready-with : Ready T labels legs (withBudget q b)
   ready-with =
       record {
@@ -347,19 +348,19 @@ module _ (T : Tables) (labels legs : List ℕ) (q : Question) (r : Ready T label
 
       go : Dec (length (entriesOf T q) ≡ 0) → replyOf T labels legs (withBudget q b) ≡ replyOf T labels legs q
       go (yes e) =
-          reply-is T labels legs (withBudget q b) ready-with f (no-entries T labels legs (withBudget q b) ready-with f within (ap length (entries-same T q b) ∙ e))
+          reply-is T labels legs (withBudget q b) ready-with (no-entries T labels legs (withBudget q b) ready-with within (ap length (entries-same T q b) ∙ e))
           ∙ no-way-same
-          ∙ sym (reply-is T labels legs q r f (no-entries T labels legs q r f h e))
+          ∙ sym (reply-is T labels legs q r (no-entries T labels legs q r h e))
       go (no e) =
-          reply-is T labels legs (withBudget q b) ready-with f (some-entries T labels legs (withBudget q b) ready-with f within (λ z. e (sym (ap length (entries-same T q b)) ∙ z)))
+          reply-is T labels legs (withBudget q b) ready-with (some-entries T labels legs (withBudget q b) ready-with within (λ z. e (sym (ap length (entries-same T q b)) ∙ z)))
           ∙ answered-same
-          ∙ sym (reply-is T labels legs q r f (some-entries T labels legs q r f h e))
+          ∙ sym (reply-is T labels legs q r (some-entries T labels legs q r h e))
 
-pub demand3 : (T : Tables) (labels legs : List ℕ) (q : Question) → Ready T labels legs q → faultOf T ≡ none → Demand3 T labels legs q
-demand3 T labels legs q r f =
+pub demand3 : (T : Tables) (labels legs : List ℕ) (q : Question) → Ready T labels legs q → Demand3 T labels legs q
+demand3 T labels legs q r =
     record {
-      work = work-right T labels legs q r f;
+      work = work-right T labels legs q r;
       limit = work-limit T (usable-of T (r .sound)) q (r .limit≤);
-      budget = (budget-passed T labels legs q r f, verdict-marked T labels legs q r f);
-      larger = larger T labels legs q r f;
+      budget = (budget-passed T labels legs q r, verdict-marked T labels legs q r);
+      larger = larger T labels legs q r;
     }

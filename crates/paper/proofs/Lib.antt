@@ -2,6 +2,9 @@
 pub mod Opened
 pub mod AllStarred
 pub mod Example
+pub mod Lowest
+pub mod Places
+pub mod Checks
 pub mod Usable
 pub mod Rides
 pub mod Steps
