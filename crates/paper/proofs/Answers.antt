@@ -12,16 +12,17 @@ use lib.Seq.{ext-getD}
 use borrow.Author.Tests.{ltb-true, ltb-false, leb-true, lt-ltb, le-ltb, le-leb, lt-leb, eq-eqb, ne-eqb}
 use Rattle.laws.specs.Below.{mark, orElse, given, firstFound}
 use Rattle.laws.specs.Lists.{tab, pieces, part, over}
-use Rattle.laws.proofs.Tests.{and-true}
-use Rattle.laws.proofs.Lists.{length-tab, getD-tab, length-pieces, getD-pieces, getD-part, length-part-of, getD-over, length-over}
+use Rattle.laws.proofs.Tests.{and-true, by-test, by-lt}
+use Rattle.laws.proofs.Lists.{length-tab, getD-tab, length-pieces, getD-pieces, pieces-same, getD-part, length-part-of, getD-over, length-over}
 use Rattle.paper.specs.Timetable.{Tables, fullSizes}
 use Rattle.paper.specs.Rules.{Refusal, Sound, refusedBy, faultOf}
 use Rattle.paper.specs.Rows.{label, rowOf}
-use Rattle.paper.specs.Tie.{isEntry, legsOf, numbersOf}
+use Rattle.paper.specs.Tie.{isEntry, entriesBelow, entriesOf, legsOf, numbersOf}
 use Rattle.paper.specs.Reply.{shortTable, lengthsOf, questionBroken, refusal, labelsTable, legNumbers, legsRow, legsTable, askUnless, askOf, searched}
 use Rattle.paper.specs.Demands.{Ready}
 use Rattle.paper.specs.declared.Question.{Question}
 use Rattle.paper.specs.declared.Leg.{Leg}
+use Rattle.paper.proofs.Listing.{entry-listed}
 
 module _ (T : Tables) (q : Question) where
   labels-row : (k : ℕ) → length (tab 256 λ s. cond (leb k (q .limit)) (label (rowOf T q k) s) mark) ≡ 256
@@ -64,6 +65,26 @@ module _ (T : Tables) (q : Question) where
       ∙ ap (λ (b : Bool). getD (cond b (tab 40 λ i. getD (legNumbers (legsOf T q (suc k) (q .target))) i mark) (replicate 40 mark)) i z)
       (and-true (leb (suc k) (q .limit)) (isEntry T q (suc k)) (le-leb (suc k) (q .limit) l) e)
       ∙ getD-tab 40 _ i z m)
+
+-- where there is no entry the legs table is all mark
+pub no-entry-legs : (T : Tables) (q : Question) → length (entriesOf T q) ≡ 0 → legsTable T q ≡ replicate 320 mark
+unfolding legsTable pieces
+no-entry-legs T q e = pieces-same 8 (λ k. legsRow T q (suc k)) (λ k. replicate 40 mark) (λ k _. no-row (suc k))
+  where
+    no-row : (k : ℕ) → legsRow T q k ≡ replicate 40 mark
+    no-row k =
+        by-test (isEntry T q k)
+        (λ t. by-lt (q .limit) k
+        (λ l. unfold legsRow in (rw (lt-leb k (q .limit) l)))
+        (λ l. let x = entry-listed T q (suc (q .limit)) k (omega arith) t in
+        let h : x .place < length (entriesBelow T q (suc (q .limit))) = x .place< in
+        let z : length (entriesBelow T q (suc (q .limit))) ≡ 0 = unfold entriesOf in e in
+        absurd (omega arith)))
+        (λ t. unfold legsRow in (go (leb k (q .limit)) (isEntry T q k) t))
+      where
+        go : (a b : Bool) → b ≡ false → cond (a && b) (tab 40 λ i. getD (legNumbers (legsOf T q k (q .target))) i mark) (replicate 40 mark) ≡ replicate 40 mark
+        go true b f = rw f
+        go false b f = refl
 
 pub length-numbers : (gs : List Leg) → length (legNumbers gs) ≡ 5 * length gs
 unfolding legNumbers

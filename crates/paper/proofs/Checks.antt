@@ -1,20 +1,18 @@
 -- The rules that compute and 01's words are one: nothing is refused exactly where the tables are sound.
-use mathlib.Core.Path.{_≡_, refl, sym, _∙_}
-use mathlib.Core.Bool.{Bool, true, false}
-use mathlib.Core.List.{[], _∷_}
+use mathlib.Core.Path.{_≡_, refl, _∙_}
+use mathlib.Core.Bool.{false}
 use mathlib.Core.Option.{Option, none, some}
 use Prim.Native.Nat.{ℕ, zero, suc, _+_, _*_, _-_, _≤_, _<_}
 use native.Mathlib.Nat.{le-refl}
 use native.Mathlib.Omega.{arith}
-use Rattle.laws.specs.Below.{orElse, given, firstFound, sumBelow}
-use Rattle.laws.proofs.Tests.{by-test}
+use Rattle.laws.specs.Below.{orElse, given, sumBelow}
 use Rattle.laws.proofs.Checking.{orElse-nothing}
 use Rattle.laws.proofs.Below.{sumBelow-at}
 use Rattle.laws.proofs.Found.{some-none, orElse-none, given-false, firstFound-none, firstFound-never}
-use Rattle.paper.specs.Timetable.{Tables, nOf, mOf, positionsTo, tripsTo, eventsTo, routeOf, walkFrom, walkTo}
+use Rattle.paper.specs.Timetable.{Tables, nOf, mOf, positionsTo, tripsTo, eventsTo, routeOf}
 use Rattle.paper.specs.Rules.{Refusal, headsBroken, routeBroken, stopBroken, timeBroken, overtakes, eventOf, lowestOf, lowestTime, lowestOvertaken, walkBroken, opens, countRules, wholeRules, refusedBy, firstBroken, faultOf, Sound}
 use Rattle.paper.proofs.Lowest.{given-nothing, lowest-none, lowest-passed}
-use Rattle.paper.proofs.Places.{HeadsRight, heads-right, heads-whole, RouteRight, route-right, route-whole, stop-right, stop-whole, time-right, time-whole, order-right, order-whole, Rising, walk-right, walk-whole, open-right, open-whole}
+use Rattle.paper.proofs.Places.{heads-right, heads-whole, RouteRight, route-right, route-whole, stop-right, stop-whole, time-right, time-whole, order-right, order-whole, Rising, walk-right, walk-whole, open-right, open-whole}
 
 -- "5 (head counts, then routes upwards)" refuses nothing
 pub record CountsUnbroken (T : Tables) : Type 0 where

@@ -5,6 +5,7 @@ pub mod Example
 pub mod Lowest
 pub mod Places
 pub mod Checks
+pub mod LowestPlace
 pub mod Usable
 pub mod Rides
 pub mod Steps

@@ -1,12 +1,12 @@
 -- Laws of lowestOf, in the words of a loop that asks one place after the other.
-use mathlib.Core.Path.{_≡_, refl, sym, _∙_}
+use mathlib.Core.Path.{_≡_}
 use mathlib.Core.Bool.{Bool, true, false}
-use mathlib.Core.Option.{Option, none, some}
+use mathlib.Core.Option.{none, some}
 use Prim.Native.Nat.{ℕ, _<_}
-use Rattle.laws.specs.Below.{given, firstFound}
+use Rattle.laws.specs.Below.{given}
 use Rattle.laws.proofs.Tests.{by-test}
 use Rattle.laws.proofs.Below.{Passed}
-use Rattle.laws.proofs.Found.{FirstAt, some-none, some-same, given-true, given-false, given-some, firstFound-none, firstFound-never, firstFound-hit, firstFound-is}
+use Rattle.laws.proofs.Found.{some-none, some-same, given-true, given-false, given-some, firstFound-none, firstFound-never, firstFound-hit, firstFound-is}
 use Rattle.paper.specs.Rules.{lowestOf}
 
 -- what is given where the test holds is nothing: the test does not hold

@@ -6,6 +6,7 @@ use mathlib.Core.List.{List, [], _∷_, _++_}
 use mathlib.Core.Option.{Option, none, some}
 use Prim.Native.Nat.{ℕ, zero, suc, _+_, _*_, _-_, _≤_, _<_, pred}
 use lib.Dec.{eqb, leb, ltb}
+use lib.ListN.{length}
 use Rattle.laws.specs.Below.{anyBelow, orElse, given, firstFound}
 use Rattle.paper.specs.Timetable.{Tables, Route, nOf, mOf, firstPosition, firstEvent, positionsTo, tripsTo, eventsTo, stopOf, walkFrom, walkTo, walkSeconds, routeOf, arriveAt, departAt}
 
@@ -179,3 +180,12 @@ pub record Sound (T : Tables) : Type 0 where
       (walkFrom T w < walkFrom T (w + 1)) ⊎ ((walkFrom T w ≡ walkFrom T (w + 1)) × (walkTo T w < walkTo T (w + 1)))
   pub closed : (v w : ℕ) → v < T .walks → w < T .walks → walkFrom T w ≡ walkTo T v → (walkTo T w ≡ walkFrom T v → ⊥) →
       Via T (walkFrom T v) (walkTo T w) (walkSeconds T v + walkSeconds T w)
+
+-- a sound timetable in tables of at least their full sizes
+pub record Fit (T : Tables) : Type 0 where
+  pub sound : Sound T
+  pub routes-room : 256 ≤ length (T .t1)
+  pub positions-room : 2048 ≤ length (T .t2)
+  pub arrivals-room : 2048 ≤ length (T .t3)
+  pub departures-room : 2048 ≤ length (T .t4)
+  pub walks-room : 1536 ≤ length (T .t5)

@@ -1,0 +1,2 @@
+-- That the networks may be asked.
+pub mod Networks

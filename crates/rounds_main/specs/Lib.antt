@@ -1,0 +1,2 @@
+-- What the program's functions ask.
+pub mod Network
