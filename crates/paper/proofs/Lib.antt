@@ -24,6 +24,9 @@ pub mod FeedTrips
 pub mod FeedRoutes
 pub mod Accepted
 pub mod Damage
+pub mod Agree
+pub mod WellRead
+pub mod Follows
 pub mod FeedLongest
 pub mod Budget
 pub mod Answers

@@ -1,0 +1,12 @@
+-- Laws of reading and writing, for the functions' proofs.
+pub mod Held
+pub mod Trip
+pub mod Route
+pub mod Walk
+pub mod Records
+pub mod Top
+pub mod Sent
+pub mod Put
+pub mod Feed
+pub mod Judge
+pub mod Answers

@@ -1,0 +1,32 @@
+-- A feed is accepted exactly when it follows document 01: it is the feed of a sound timetable, and that timetable is what is read.
+use mathlib.Core.Path.{_≡_, refl, sym, ap, _∙_}
+use mathlib.Core.Logic.{_↔_}
+use mathlib.Core.List.{List}
+use Prim.Native.Nat.{ℕ}
+use Rattle.laws.proofs.Found.{orElse-none}
+use Rattle.paper.specs.Timetable.{Tables}
+use Rattle.paper.specs.Rules.{Sound, wholeRules, firstBroken, faultOf}
+use Rattle.paper.specs.Feed.{feedOf}
+use Rattle.paper.specs.Reading.{Accepted, readOf}
+use Rattle.paper.proofs.Checks.{sound-of, whole-none}
+use Rattle.paper.proofs.ReadBack.{Exact, read-feed}
+use Rattle.paper.proofs.Accepted.{Bytes, accepted}
+use Rattle.paper.proofs.WellRead.{counts-unbroken}
+
+-- T is sound, its tables have just the length that is used, and f is its feed
+pub record Follows (f : List ℕ) (T : Tables) : Type 0 where
+  pub sound : Sound T
+  pub exact : Exact T
+  pub feed : feedOf T ≡ f
+
+pub accepted-follows : (f : List ℕ) → Bytes f → (T : Tables) → (readOf f ≡ Accepted T) ↔ Follows f T
+unfolding faultOf
+accepted-follows f bytes T = (
+  λ e. let x = accepted f T bytes e in
+      record {
+        sound = sound-of T (orElse-none (firstBroken wholeRules T) (counts-unbroken T (x .counts)) ∙ x .rules);
+        exact = x .exact;
+        feed = x .feed;
+      },
+  λ x. ap readOf (sym (x .feed)) ∙ read-feed T (x .sound) (x .exact) (whole-none T (x .sound)),
+)
