@@ -16,7 +16,7 @@ use Rattle.laws.proofs.Below.{Passed, passed-none, passed-more, firstBelow-le, 
 use Rattle.paper.specs.Timetable.{Tables, walkFrom, walkTo, walkSeconds}
 use Rattle.paper.specs.Rules.{within, gap, opens, Via}
 use Rattle.paper.proofs.Places.{via-right, via-whole}
-use Rattle.timetable.specs.Walks.{Walked, beginOf, BeginsPast, Begins, SecondsFrom}
+use Rattle.timetable.specs.Walks.{Walked, beginOf, BeginsPast, Begins, SecondsFrom, OnWalk}
 
 -- ---- where the walks of a stop begin
 
@@ -269,6 +269,52 @@ module _ (T : Tables) (v : ℕ) where
         sym (anyBelow-all-false (T .walks) (gap T v) (λ x m. by-lt x w
         (λ k. n .passed x k)
         (λ k. gap-elsewhere T v x (λ z. omega (arith, begin-past T h (walkTo T v + 1) x (omega arith) m)))))
+
+-- what a turn of the loop over these walks reads
+pub record Pair (T : Tables) (seconds : List ℕ) (v w : ℕ) : Type 0 where
+  pub v< : v < 512
+  pub w< : w < 512
+  pub table : 1536 ≤ length (T .t5)
+  pub to< : walkTo T w < length seconds
+  pub both≤ : walkSeconds T v + walkSeconds T w ≤ 7200
+  pub below : w < T .walks
+  pub follows : walkFrom T w ≡ walkTo T v
+
+pub pair : (T : Tables) (begins seconds : List ℕ) (v w : ℕ) → OnWalk T begins seconds v → Following T v w →
+    w < getD begins (walkTo T v + 1) 0 → Pair T seconds v w
+pair T begins seconds v w h n l =
+    let to = to-small T (h .walked) v (h .below) in
+    let f = follows T v (h .walked) w n (h .starts .is (walkTo T v + 1) (omega arith)) l in
+    let b : w < T .walks = f .0 in
+    let m = h .walked .walks≤ in
+    record {
+      v< = omega (arith, h .below);
+      w< = omega arith;
+      table = h .walked .long;
+      to< = omega (arith, f .2, h .near .long);
+      both≤ = omega (arith, h .walked .walk v (h .below) .seconds≤, h .walked .walk w b .seconds≤);
+      below = b;
+      follows = f .1;
+    }
+
+-- what the code reads before the loop
+pub record First (T : Tables) (begins : List ℕ) (v : ℕ) : Type 0 where
+  pub v< : v < 512
+  pub table : 1536 ≤ length (T .t5)
+  pub to< : walkTo T v < 257
+  pub next< : walkTo T v + 1 < 257
+  pub after : walkTo T v + 1 < length begins
+
+pub first : (T : Tables) (begins seconds : List ℕ) (v : ℕ) → OnWalk T begins seconds v → First T begins v
+first T begins seconds v h =
+    let to = to-small T (h .walked) v (h .below) in
+    record {
+      v< = omega (arith, h .below, h .walked .walks≤);
+      table = h .walked .long;
+      to< = omega arith;
+      next< = omega arith;
+      after = omega (arith, h .starts .long);
+    }
 
 -- ---- the loop over the walks
 

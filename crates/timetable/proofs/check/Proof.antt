@@ -13,13 +13,13 @@ enum-known-short : tie.Need-enum-known-short
 enum-known-short c = search needs
 
 returns : tie.Need-returns
-returns c = short-refused (lent (c .before .before .before .before .before .before .before .before .before .args .heads) (c .before .before .before .before .before .before .before .before .before .args .routes) (c .before .before .before .before .before .before .before .before .before .args .positions) (c .before .before .before .before .before .before .before .before .before .args .arrivals) (c .before .before .before .before .before .before .before .before .before .args .departures) (c .before .before .before .before .before .before .before .before .before .args .walks)) (sym (c .before .short .given .1) ∙ c .before .before .before .short-table .ensures)
+returns c = let a = c .before .before .before .before .before .before .before .before .before .args in let T = lent (a .heads) (a .routes) (a .positions) (a .arrivals) (a .departures) (a .walks) in short-refused T (sym (c .before .short .given .1) ∙ c .before .before .before .short-table .ensures)
 
 enum-told : tie.Need-enum-told
 enum-told c = search needs
 
 fault-of-requires : tie.Need-fault-of-requires
-fault-of-requires c κs = full-of (lent (c .before .before .before .before .before .before .before .before .args .heads) (c .before .before .before .before .before .before .before .before .args .routes) (c .before .before .before .before .before .before .before .before .args .positions) (c .before .before .before .before .before .before .before .before .args .arrivals) (c .before .before .before .before .before .before .before .before .args .departures) (c .before .before .before .before .before .before .before .before .args .walks)) (sym (c .enum-told .given .1) ∙ c .before .before .short-table .ensures)
+fault-of-requires c κs = let a = c .before .before .before .before .before .before .before .before .args in let T = lent (a .heads) (a .routes) (a .positions) (a .arrivals) (a .departures) (a .walks) in full-of T (sym (c .enum-told .given .1) ∙ c .before .before .short-table .ensures)
 
 enum-known-number : tie.Need-enum-known-number
 enum-known-number c = search needs
@@ -28,13 +28,13 @@ enum-told-2 : tie.Need-enum-told-2
 enum-told-2 c = search needs
 
 limit-of-requires : tie.Need-limit-of-requires
-limit-of-requires c κs = limit-lent (lent (c .before .before .before .before .before .before .before .before .before .before .before .args .heads) (c .before .before .before .before .before .before .before .before .before .before .before .args .routes) (c .before .before .before .before .before .before .before .before .before .before .before .args .positions) (c .before .before .before .before .before .before .before .before .before .before .before .args .arrivals) (c .before .before .before .before .before .before .before .before .before .before .before .args .departures) (c .before .before .before .before .before .before .before .before .before .before .before .args .walks)) (full-of (lent (c .before .before .before .before .before .before .before .before .before .before .before .args .heads) (c .before .before .before .before .before .before .before .before .before .before .before .args .routes) (c .before .before .before .before .before .before .before .before .before .before .before .args .positions) (c .before .before .before .before .before .before .before .before .before .before .before .args .arrivals) (c .before .before .before .before .before .before .before .before .before .before .before .args .departures) (c .before .before .before .before .before .before .before .before .before .before .before .args .walks)) (sym (c .before .before .before .enum-told .given .1) ∙ c .before .before .before .before .before .short-table .ensures)) (sym (c .enum-told2 .given .1) ∙ c .before .before .fault-of .ensures) refl refl
+limit-of-requires c κs = let a = c .before .before .before .before .before .before .before .before .before .before .before .args in let T = lent (a .heads) (a .routes) (a .positions) (a .arrivals) (a .departures) (a .walks) in limit-lent T (full-of T (sym (c .before .before .before .enum-told .given .1) ∙ c .before .before .before .before .before .short-table .ensures)) (sym (c .enum-told2 .given .1) ∙ c .before .before .fault-of .ensures) refl refl
 
 returns-2 : tie.Need-returns-2
-returns-2 c = fault-refused (lent (c .before .before .before .before .before .before .before .before .before .before .before .before .args .heads) (c .before .before .before .before .before .before .before .before .before .before .before .before .args .routes) (c .before .before .before .before .before .before .before .before .before .before .before .before .args .positions) (c .before .before .before .before .before .before .before .before .before .before .before .before .args .arrivals) (c .before .before .before .before .before .before .before .before .before .before .before .before .args .departures) (c .before .before .before .before .before .before .before .before .before .before .before .before .args .walks)) (sym (c .before .before .before .before .enum-told .given .1) ∙ c .before .before .before .before .before .before .short-table .ensures) (sym (c .before .number .given .1) ∙ c .before .before .before .fault-of .ensures)
+returns-2 c = let a = c .before .before .before .before .before .before .before .before .before .before .before .before .args in let T = lent (a .heads) (a .routes) (a .positions) (a .arrivals) (a .departures) (a .walks) in fault-refused T (sym (c .before .before .before .before .enum-told .given .1) ∙ c .before .before .before .before .before .before .short-table .ensures) (sym (c .before .number .given .1) ∙ c .before .before .before .fault-of .ensures)
 
 returns-3 : tie.Need-returns-3
-returns-3 c = check-done (lent (c .before .before .before .before .before .before .before .before .before .before .before .before .args .heads) (c .before .before .before .before .before .before .before .before .before .before .before .before .args .routes) (c .before .before .before .before .before .before .before .before .before .before .before .before .args .positions) (c .before .before .before .before .before .before .before .before .before .before .before .before .args .arrivals) (c .before .before .before .before .before .before .before .before .before .before .before .before .args .departures) (c .before .before .before .before .before .before .before .before .before .before .before .before .args .walks)) (sym (c .before .before .before .before .enum-told .given .1) ∙ c .before .before .before .before .before .before .short-table .ensures) (sym (c .before .enum-told2 .given .1) ∙ c .before .before .before .fault-of .ensures) (limit-read (lent (c .before .before .before .before .before .before .before .before .before .before .before .before .args .heads) (c .before .before .before .before .before .before .before .before .before .before .before .before .args .routes) (c .before .before .before .before .before .before .before .before .before .before .before .before .args .positions) (c .before .before .before .before .before .before .before .before .before .before .before .before .args .arrivals) (c .before .before .before .before .before .before .before .before .before .before .before .before .args .departures) (c .before .before .before .before .before .before .before .before .before .before .before .before .args .walks)) (c .limit-of .ensures))
+returns-3 c = let a = c .before .before .before .before .before .before .before .before .before .before .before .before .args in let T = lent (a .heads) (a .routes) (a .positions) (a .arrivals) (a .departures) (a .walks) in check-done T (sym (c .before .before .before .before .enum-told .given .1) ∙ c .before .before .before .before .before .before .short-table .ensures) (sym (c .before .enum-told2 .given .1) ∙ c .before .before .before .fault-of .ensures) (limit-read T (c .limit-of .ensures))
 
 pub check-spec : {M : Type 1} → statement M
 check-spec =

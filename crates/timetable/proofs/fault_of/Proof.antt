@@ -13,16 +13,16 @@ enum-known-number : tie.Need-enum-known-number
 enum-known-number c = search needs
 
 returns : tie.Need-returns
-returns c = counts-refused (lent (c .before .before .before .before .before .before .before .before .before .args .heads) (c .before .before .before .before .before .before .before .before .before .args .routes) (c .before .before .before .before .before .before .before .before .before .args .positions) (c .before .before .before .before .before .before .before .before .before .args .arrivals) (c .before .before .before .before .before .before .before .before .before .args .departures) (c .before .before .before .before .before .before .before .before .before .args .walks)) (counts-read (lent (c .before .before .before .before .before .before .before .before .before .args .heads) (c .before .before .before .before .before .before .before .before .before .args .routes) (c .before .before .before .before .before .before .before .before .before .args .positions) (c .before .before .before .before .before .before .before .before .before .args .arrivals) (c .before .before .before .before .before .before .before .before .before .args .departures) (c .before .before .before .before .before .before .before .before .before .args .walks)) (sym (c .before .number .given .1) ∙ c .before .before .before .count-fault .ensures))
+returns c = let a = c .before .before .before .before .before .before .before .before .before .args in let T = lent (a .heads) (a .routes) (a .positions) (a .arrivals) (a .departures) (a .walks) in counts-refused T (counts-read T (sym (c .before .number .given .1) ∙ c .before .before .before .count-fault .ensures))
 
 enum-told : tie.Need-enum-told
 enum-told c = search needs
 
 whole-fault-requires : tie.Need-whole-fault-requires
-whole-fault-requires c κs = counts-right (lent (c .before .before .before .before .before .before .before .before .args .heads) (c .before .before .before .before .before .before .before .before .args .routes) (c .before .before .before .before .before .before .before .before .args .positions) (c .before .before .before .before .before .before .before .before .args .arrivals) (c .before .before .before .before .before .before .before .before .args .departures) (c .before .before .before .before .before .before .before .before .args .walks)) (c .before .before .before .before .before .before .before .before .pre) (counts-read (lent (c .before .before .before .before .before .before .before .before .args .heads) (c .before .before .before .before .before .before .before .before .args .routes) (c .before .before .before .before .before .before .before .before .args .positions) (c .before .before .before .before .before .before .before .before .args .arrivals) (c .before .before .before .before .before .before .before .before .args .departures) (c .before .before .before .before .before .before .before .before .args .walks)) (sym (c .enum-told .given .1) ∙ c .before .before .count-fault .ensures))
+whole-fault-requires c κs = let a = c .before .before .before .before .before .before .before .before .args in let T = lent (a .heads) (a .routes) (a .positions) (a .arrivals) (a .departures) (a .walks) in counts-right T (c .before .before .before .before .before .before .before .before .pre) (counts-read T (sym (c .enum-told .given .1) ∙ c .before .before .count-fault .ensures))
 
 returns-2 : tie.Need-returns-2
-returns-2 c = whole-answer (lent (c .before .before .before .before .before .before .before .before .before .args .heads) (c .before .before .before .before .before .before .before .before .before .args .routes) (c .before .before .before .before .before .before .before .before .before .args .positions) (c .before .before .before .before .before .before .before .before .before .args .arrivals) (c .before .before .before .before .before .before .before .before .before .args .departures) (c .before .before .before .before .before .before .before .before .before .args .walks)) (counts-read (lent (c .before .before .before .before .before .before .before .before .before .args .heads) (c .before .before .before .before .before .before .before .before .before .args .routes) (c .before .before .before .before .before .before .before .before .before .args .positions) (c .before .before .before .before .before .before .before .before .before .args .arrivals) (c .before .before .before .before .before .before .before .before .before .args .departures) (c .before .before .before .before .before .before .before .before .before .args .walks)) (sym (c .before .enum-told .given .1) ∙ c .before .before .before .count-fault .ensures)) (c .whole-fault .ensures)
+returns-2 c = let a = c .before .before .before .before .before .before .before .before .before .args in let T = lent (a .heads) (a .routes) (a .positions) (a .arrivals) (a .departures) (a .walks) in whole-answer T (counts-read T (sym (c .before .enum-told .given .1) ∙ c .before .before .before .count-fault .ensures)) (c .whole-fault .ensures)
 
 pub fault-of-spec : {M : Type 1} → statement M
 fault-of-spec =

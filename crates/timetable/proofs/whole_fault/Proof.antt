@@ -8,70 +8,70 @@ use Rattle.timetable.proofs.whole_fault.Statement.{statement}
 use Rattle.timetable.proofs.whole_fault.Tie as tie
 
 totals-of-requires : tie.Need-totals-of-requires
-totals-of-requires c κs = laid-of (lent (c .before .before .before .before .before .args .heads) (c .before .before .before .before .before .args .routes) (c .before .before .before .before .before .args .positions) (c .before .before .before .before .before .args .arrivals) (c .before .before .before .before .before .args .departures) (c .before .before .before .before .before .args .walks)) (c .before .before .before .before .before .pre)
+totals-of-requires c κs = let a = c .before .before .before .before .before .args in let T = lent (a .heads) (a .routes) (a .positions) (a .arrivals) (a .departures) (a .walks) in laid-of T (c .before .before .before .before .before .pre)
 
 lowest-stop-requires : tie.Need-lowest-stop-requires
-lowest-stop-requires c κs = positions-fit (lent (c .before .before .before .before .before .before .args .heads) (c .before .before .before .before .before .before .args .routes) (c .before .before .before .before .before .before .args .positions) (c .before .before .before .before .before .before .args .arrivals) (c .before .before .before .before .before .before .args .departures) (c .before .before .before .before .before .before .args .walks)) (c .before .before .before .before .before .before .pre) (ap (λ (x : Totals). x .positions) (c .totals-of .ensures))
+lowest-stop-requires c κs = let a = c .before .before .before .before .before .before .args in let T = lent (a .heads) (a .routes) (a .positions) (a .arrivals) (a .departures) (a .walks) in positions-fit T (c .before .before .before .before .before .before .pre) (ap (λ (x : Totals). x .positions) (c .totals-of .ensures))
 
 enum-known-p : tie.Need-enum-known-p
 enum-known-p c = search needs
 
 returns : tie.Need-returns
-returns c = refused-7 (lent (c .before .before .before .before .before .before .before .before .before .before .args .heads) (c .before .before .before .before .before .before .before .before .before .before .args .routes) (c .before .before .before .before .before .before .before .before .before .before .args .positions) (c .before .before .before .before .before .before .before .before .before .before .args .arrivals) (c .before .before .before .before .before .before .before .before .before .before .args .departures) (c .before .before .before .before .before .before .before .before .before .before .args .walks)) (stops-read (lent (c .before .before .before .before .before .before .before .before .before .before .args .heads) (c .before .before .before .before .before .before .before .before .before .before .args .routes) (c .before .before .before .before .before .before .before .before .before .before .args .positions) (c .before .before .before .before .before .before .before .before .before .before .args .arrivals) (c .before .before .before .before .before .before .before .before .before .before .args .departures) (c .before .before .before .before .before .before .before .before .before .before .args .walks)) (ap (λ (x : Totals). x .positions) (c .before .before .before .before .totals-of .ensures)) (sym (c .before .p .given .1) ∙ c .before .before .before .lowest-stop .ensures))
+returns c = let a = c .before .before .before .before .before .before .before .before .before .before .args in let T = lent (a .heads) (a .routes) (a .positions) (a .arrivals) (a .departures) (a .walks) in refused-7 T (stops-read T (ap (λ (x : Totals). x .positions) (c .before .before .before .before .totals-of .ensures)) (sym (c .before .p .given .1) ∙ c .before .before .before .lowest-stop .ensures))
 
 enum-told : tie.Need-enum-told
 enum-told c = search needs
 
 lowest-time-requires : tie.Need-lowest-time-requires
-lowest-time-requires c κs = times-laid (lent (c .before .before .before .before .before .before .before .before .before .args .heads) (c .before .before .before .before .before .before .before .before .before .args .routes) (c .before .before .before .before .before .before .before .before .before .args .positions) (c .before .before .before .before .before .before .before .before .before .args .arrivals) (c .before .before .before .before .before .before .before .before .before .args .departures) (c .before .before .before .before .before .before .before .before .before .args .walks)) (c .before .before .before .before .before .before .before .before .before .pre)
+lowest-time-requires c κs = let a = c .before .before .before .before .before .before .before .before .before .args in let T = lent (a .heads) (a .routes) (a .positions) (a .arrivals) (a .departures) (a .walks) in times-laid T (c .before .before .before .before .before .before .before .before .before .pre)
 
 enum-known-p-2 : tie.Need-enum-known-p-2
 enum-known-p-2 c = search needs
 
 returns-2 : tie.Need-returns-2
-returns-2 c = refused-8 (lent (c .before .before .before .before .before .before .before .before .before .before .before .before .before .args .heads) (c .before .before .before .before .before .before .before .before .before .before .before .before .before .args .routes) (c .before .before .before .before .before .before .before .before .before .before .before .before .before .args .positions) (c .before .before .before .before .before .before .before .before .before .before .before .before .before .args .arrivals) (c .before .before .before .before .before .before .before .before .before .before .before .before .before .args .departures) (c .before .before .before .before .before .before .before .before .before .before .before .before .before .args .walks)) (stops-read (lent (c .before .before .before .before .before .before .before .before .before .before .before .before .before .args .heads) (c .before .before .before .before .before .before .before .before .before .before .before .before .before .args .routes) (c .before .before .before .before .before .before .before .before .before .before .before .before .before .args .positions) (c .before .before .before .before .before .before .before .before .before .before .before .before .before .args .arrivals) (c .before .before .before .before .before .before .before .before .before .before .before .before .before .args .departures) (c .before .before .before .before .before .before .before .before .before .before .before .before .before .args .walks)) (ap (λ (x : Totals). x .positions) (c .before .before .before .before .before .before .before .totals-of .ensures)) (sym (c .before .before .before .before .enum-told .given .1) ∙ c .before .before .before .before .before .before .lowest-stop .ensures)) (times-read (lent (c .before .before .before .before .before .before .before .before .before .before .before .before .before .args .heads) (c .before .before .before .before .before .before .before .before .before .before .before .before .before .args .routes) (c .before .before .before .before .before .before .before .before .before .before .before .before .before .args .positions) (c .before .before .before .before .before .before .before .before .before .before .before .before .before .args .arrivals) (c .before .before .before .before .before .before .before .before .before .before .before .before .before .args .departures) (c .before .before .before .before .before .before .before .before .before .before .before .before .before .args .walks)) (sym (c .before .p2 .given .1) ∙ c .before .before .before .lowest-time .ensures))
+returns-2 c = let a = c .before .before .before .before .before .before .before .before .before .before .before .before .before .args in let T = lent (a .heads) (a .routes) (a .positions) (a .arrivals) (a .departures) (a .walks) in refused-8 T (stops-read T (ap (λ (x : Totals). x .positions) (c .before .before .before .before .before .before .before .totals-of .ensures)) (sym (c .before .before .before .before .enum-told .given .1) ∙ c .before .before .before .before .before .before .lowest-stop .ensures)) (times-read T (sym (c .before .p2 .given .1) ∙ c .before .before .before .lowest-time .ensures))
 
 enum-told-2 : tie.Need-enum-told-2
 enum-told-2 c = search needs
 
 lowest-overtaken-requires : tie.Need-lowest-overtaken-requires
-lowest-overtaken-requires c κs = times-laid (lent (c .before .before .before .before .before .before .before .before .before .before .before .before .args .heads) (c .before .before .before .before .before .before .before .before .before .before .before .before .args .routes) (c .before .before .before .before .before .before .before .before .before .before .before .before .args .positions) (c .before .before .before .before .before .before .before .before .before .before .before .before .args .arrivals) (c .before .before .before .before .before .before .before .before .before .before .before .before .args .departures) (c .before .before .before .before .before .before .before .before .before .before .before .before .args .walks)) (c .before .before .before .before .before .before .before .before .before .before .before .before .pre)
+lowest-overtaken-requires c κs = let a = c .before .before .before .before .before .before .before .before .before .before .before .before .args in let T = lent (a .heads) (a .routes) (a .positions) (a .arrivals) (a .departures) (a .walks) in times-laid T (c .before .before .before .before .before .before .before .before .before .before .before .before .pre)
 
 enum-known-p-3 : tie.Need-enum-known-p-3
 enum-known-p-3 c = search needs
 
 returns-3 : tie.Need-returns-3
-returns-3 c = refused-9 (lent (c .before .before .before .before .before .before .before .before .before .before .before .before .before .before .before .before .args .heads) (c .before .before .before .before .before .before .before .before .before .before .before .before .before .before .before .before .args .routes) (c .before .before .before .before .before .before .before .before .before .before .before .before .before .before .before .before .args .positions) (c .before .before .before .before .before .before .before .before .before .before .before .before .before .before .before .before .args .arrivals) (c .before .before .before .before .before .before .before .before .before .before .before .before .before .before .before .before .args .departures) (c .before .before .before .before .before .before .before .before .before .before .before .before .before .before .before .before .args .walks)) (stops-read (lent (c .before .before .before .before .before .before .before .before .before .before .before .before .before .before .before .before .args .heads) (c .before .before .before .before .before .before .before .before .before .before .before .before .before .before .before .before .args .routes) (c .before .before .before .before .before .before .before .before .before .before .before .before .before .before .before .before .args .positions) (c .before .before .before .before .before .before .before .before .before .before .before .before .before .before .before .before .args .arrivals) (c .before .before .before .before .before .before .before .before .before .before .before .before .before .before .before .before .args .departures) (c .before .before .before .before .before .before .before .before .before .before .before .before .before .before .before .before .args .walks)) (ap (λ (x : Totals). x .positions) (c .before .before .before .before .before .before .before .before .before .before .totals-of .ensures)) (sym (c .before .before .before .before .before .before .before .enum-told .given .1) ∙ c .before .before .before .before .before .before .before .before .before .lowest-stop .ensures)) (times-read (lent (c .before .before .before .before .before .before .before .before .before .before .before .before .before .before .before .before .args .heads) (c .before .before .before .before .before .before .before .before .before .before .before .before .before .before .before .before .args .routes) (c .before .before .before .before .before .before .before .before .before .before .before .before .before .before .before .before .args .positions) (c .before .before .before .before .before .before .before .before .before .before .before .before .before .before .before .before .args .arrivals) (c .before .before .before .before .before .before .before .before .before .before .before .before .before .before .before .before .args .departures) (c .before .before .before .before .before .before .before .before .before .before .before .before .before .before .before .before .args .walks)) (sym (c .before .before .before .before .enum-told2 .given .1) ∙ c .before .before .before .before .before .before .lowest-time .ensures)) (overtaken-read (lent (c .before .before .before .before .before .before .before .before .before .before .before .before .before .before .before .before .args .heads) (c .before .before .before .before .before .before .before .before .before .before .before .before .before .before .before .before .args .routes) (c .before .before .before .before .before .before .before .before .before .before .before .before .before .before .before .before .args .positions) (c .before .before .before .before .before .before .before .before .before .before .before .before .before .before .before .before .args .arrivals) (c .before .before .before .before .before .before .before .before .before .before .before .before .before .before .before .before .args .departures) (c .before .before .before .before .before .before .before .before .before .before .before .before .before .before .before .before .args .walks)) (sym (c .before .p3 .given .1) ∙ c .before .before .before .lowest-overtaken .ensures))
+returns-3 c = let a = c .before .before .before .before .before .before .before .before .before .before .before .before .before .before .before .before .args in let T = lent (a .heads) (a .routes) (a .positions) (a .arrivals) (a .departures) (a .walks) in refused-9 T (stops-read T (ap (λ (x : Totals). x .positions) (c .before .before .before .before .before .before .before .before .before .before .totals-of .ensures)) (sym (c .before .before .before .before .before .before .before .enum-told .given .1) ∙ c .before .before .before .before .before .before .before .before .before .lowest-stop .ensures)) (times-read T (sym (c .before .before .before .before .enum-told2 .given .1) ∙ c .before .before .before .before .before .before .lowest-time .ensures)) (overtaken-read T (sym (c .before .p3 .given .1) ∙ c .before .before .before .lowest-overtaken .ensures))
 
 enum-told-3 : tie.Need-enum-told-3
 enum-told-3 c = search needs
 
 lowest-walk-requires : tie.Need-lowest-walk-requires
-lowest-walk-requires c κs = walks-lent (lent (c .before .before .before .before .before .before .before .before .before .before .before .before .before .before .before .args .heads) (c .before .before .before .before .before .before .before .before .before .before .before .before .before .before .before .args .routes) (c .before .before .before .before .before .before .before .before .before .before .before .before .before .before .before .args .positions) (c .before .before .before .before .before .before .before .before .before .before .before .before .before .before .before .args .arrivals) (c .before .before .before .before .before .before .before .before .before .before .before .before .before .before .before .args .departures) (c .before .before .before .before .before .before .before .before .before .before .before .before .before .before .before .args .walks)) (c .before .before .before .before .before .before .before .before .before .before .before .before .before .before .before .pre)
+lowest-walk-requires c κs = let a = c .before .before .before .before .before .before .before .before .before .before .before .before .before .before .before .args in let T = lent (a .heads) (a .routes) (a .positions) (a .arrivals) (a .departures) (a .walks) in walks-lent T (c .before .before .before .before .before .before .before .before .before .before .before .before .before .before .before .pre)
 
 enum-known-p-4 : tie.Need-enum-known-p-4
 enum-known-p-4 c = search needs
 
 returns-4 : tie.Need-returns-4
-returns-4 c = refused-10 (lent (c .before .before .before .before .before .before .before .before .before .before .before .before .before .before .before .before .before .before .before .args .heads) (c .before .before .before .before .before .before .before .before .before .before .before .before .before .before .before .before .before .before .before .args .routes) (c .before .before .before .before .before .before .before .before .before .before .before .before .before .before .before .before .before .before .before .args .positions) (c .before .before .before .before .before .before .before .before .before .before .before .before .before .before .before .before .before .before .before .args .arrivals) (c .before .before .before .before .before .before .before .before .before .before .before .before .before .before .before .before .before .before .before .args .departures) (c .before .before .before .before .before .before .before .before .before .before .before .before .before .before .before .before .before .before .before .args .walks)) (stops-read (lent (c .before .before .before .before .before .before .before .before .before .before .before .before .before .before .before .before .before .before .before .args .heads) (c .before .before .before .before .before .before .before .before .before .before .before .before .before .before .before .before .before .before .before .args .routes) (c .before .before .before .before .before .before .before .before .before .before .before .before .before .before .before .before .before .before .before .args .positions) (c .before .before .before .before .before .before .before .before .before .before .before .before .before .before .before .before .before .before .before .args .arrivals) (c .before .before .before .before .before .before .before .before .before .before .before .before .before .before .before .before .before .before .before .args .departures) (c .before .before .before .before .before .before .before .before .before .before .before .before .before .before .before .before .before .before .before .args .walks)) (ap (λ (x : Totals). x .positions) (c .before .before .before .before .before .before .before .before .before .before .before .before .before .totals-of .ensures)) (sym (c .before .before .before .before .before .before .before .before .before .before .enum-told .given .1) ∙ c .before .before .before .before .before .before .before .before .before .before .before .before .lowest-stop .ensures)) (times-read (lent (c .before .before .before .before .before .before .before .before .before .before .before .before .before .before .before .before .before .before .before .args .heads) (c .before .before .before .before .before .before .before .before .before .before .before .before .before .before .before .before .before .before .before .args .routes) (c .before .before .before .before .before .before .before .before .before .before .before .before .before .before .before .before .before .before .before .args .positions) (c .before .before .before .before .before .before .before .before .before .before .before .before .before .before .before .before .before .before .before .args .arrivals) (c .before .before .before .before .before .before .before .before .before .before .before .before .before .before .before .before .before .before .before .args .departures) (c .before .before .before .before .before .before .before .before .before .before .before .before .before .before .before .before .before .before .before .args .walks)) (sym (c .before .before .before .before .before .before .before .enum-told2 .given .1) ∙ c .before .before .before .before .before .before .before .before .before .lowest-time .ensures)) (overtaken-read (lent (c .before .before .before .before .before .before .before .before .before .before .before .before .before .before .before .before .before .before .before .args .heads) (c .before .before .before .before .before .before .before .before .before .before .before .before .before .before .before .before .before .before .before .args .routes) (c .before .before .before .before .before .before .before .before .before .before .before .before .before .before .before .before .before .before .before .args .positions) (c .before .before .before .before .before .before .before .before .before .before .before .before .before .before .before .before .before .before .before .args .arrivals) (c .before .before .before .before .before .before .before .before .before .before .before .before .before .before .before .before .before .before .before .args .departures) (c .before .before .before .before .before .before .before .before .before .before .before .before .before .before .before .before .before .before .before .args .walks)) (sym (c .before .before .before .before .enum-told3 .given .1) ∙ c .before .before .before .before .before .before .lowest-overtaken .ensures)) (walks-read (lent (c .before .before .before .before .before .before .before .before .before .before .before .before .before .before .before .before .before .before .before .args .heads) (c .before .before .before .before .before .before .before .before .before .before .before .before .before .before .before .before .before .before .before .args .routes) (c .before .before .before .before .before .before .before .before .before .before .before .before .before .before .before .before .before .before .before .args .positions) (c .before .before .before .before .before .before .before .before .before .before .before .before .before .before .before .before .before .before .before .args .arrivals) (c .before .before .before .before .before .before .before .before .before .before .before .before .before .before .before .before .before .before .before .args .departures) (c .before .before .before .before .before .before .before .before .before .before .before .before .before .before .before .before .before .before .before .args .walks)) (sym (c .before .p4 .given .1) ∙ c .before .before .before .lowest-walk .ensures))
+returns-4 c = let a = c .before .before .before .before .before .before .before .before .before .before .before .before .before .before .before .before .before .before .before .args in let T = lent (a .heads) (a .routes) (a .positions) (a .arrivals) (a .departures) (a .walks) in refused-10 T (stops-read T (ap (λ (x : Totals). x .positions) (c .before .before .before .before .before .before .before .before .before .before .before .before .before .totals-of .ensures)) (sym (c .before .before .before .before .before .before .before .before .before .before .enum-told .given .1) ∙ c .before .before .before .before .before .before .before .before .before .before .before .before .lowest-stop .ensures)) (times-read T (sym (c .before .before .before .before .before .before .before .enum-told2 .given .1) ∙ c .before .before .before .before .before .before .before .before .before .lowest-time .ensures)) (overtaken-read T (sym (c .before .before .before .before .enum-told3 .given .1) ∙ c .before .before .before .before .before .before .lowest-overtaken .ensures)) (walks-read T (sym (c .before .p4 .given .1) ∙ c .before .before .before .lowest-walk .ensures))
 
 enum-told-4 : tie.Need-enum-told-4
 enum-told-4 c = search needs
 
 lowest-open-requires : tie.Need-lowest-open-requires
-lowest-open-requires c κs = walked-of (lent (c .before .before .before .before .before .before .before .before .before .before .before .before .before .before .before .before .before .before .args .heads) (c .before .before .before .before .before .before .before .before .before .before .before .before .before .before .before .before .before .before .args .routes) (c .before .before .before .before .before .before .before .before .before .before .before .before .before .before .before .before .before .before .args .positions) (c .before .before .before .before .before .before .before .before .before .before .before .before .before .before .before .before .before .before .args .arrivals) (c .before .before .before .before .before .before .before .before .before .before .before .before .before .before .before .before .before .before .args .departures) (c .before .before .before .before .before .before .before .before .before .before .before .before .before .before .before .before .before .before .args .walks)) (c .before .before .before .before .before .before .before .before .before .before .before .before .before .before .before .before .before .before .pre) (sym (c .enum-told4 .given .1) ∙ c .before .before .lowest-walk .ensures)
+lowest-open-requires c κs = let a = c .before .before .before .before .before .before .before .before .before .before .before .before .before .before .before .before .before .before .args in let T = lent (a .heads) (a .routes) (a .positions) (a .arrivals) (a .departures) (a .walks) in walked-of T (c .before .before .before .before .before .before .before .before .before .before .before .before .before .before .before .before .before .before .pre) (sym (c .enum-told4 .given .1) ∙ c .before .before .lowest-walk .ensures)
 
 enum-known-p-5 : tie.Need-enum-known-p-5
 enum-known-p-5 c = search needs
 
 returns-5 : tie.Need-returns-5
-returns-5 c = refused-11 (lent (c .before .before .before .before .before .before .before .before .before .before .before .before .before .before .before .before .before .before .before .before .before .before .args .heads) (c .before .before .before .before .before .before .before .before .before .before .before .before .before .before .before .before .before .before .before .before .before .before .args .routes) (c .before .before .before .before .before .before .before .before .before .before .before .before .before .before .before .before .before .before .before .before .before .before .args .positions) (c .before .before .before .before .before .before .before .before .before .before .before .before .before .before .before .before .before .before .before .before .before .before .args .arrivals) (c .before .before .before .before .before .before .before .before .before .before .before .before .before .before .before .before .before .before .before .before .before .before .args .departures) (c .before .before .before .before .before .before .before .before .before .before .before .before .before .before .before .before .before .before .before .before .before .before .args .walks)) (stops-read (lent (c .before .before .before .before .before .before .before .before .before .before .before .before .before .before .before .before .before .before .before .before .before .before .args .heads) (c .before .before .before .before .before .before .before .before .before .before .before .before .before .before .before .before .before .before .before .before .before .before .args .routes) (c .before .before .before .before .before .before .before .before .before .before .before .before .before .before .before .before .before .before .before .before .before .before .args .positions) (c .before .before .before .before .before .before .before .before .before .before .before .before .before .before .before .before .before .before .before .before .before .before .args .arrivals) (c .before .before .before .before .before .before .before .before .before .before .before .before .before .before .before .before .before .before .before .before .before .before .args .departures) (c .before .before .before .before .before .before .before .before .before .before .before .before .before .before .before .before .before .before .before .before .before .before .args .walks)) (ap (λ (x : Totals). x .positions) (c .before .before .before .before .before .before .before .before .before .before .before .before .before .before .before .before .totals-of .ensures)) (sym (c .before .before .before .before .before .before .before .before .before .before .before .before .before .enum-told .given .1) ∙ c .before .before .before .before .before .before .before .before .before .before .before .before .before .before .before .lowest-stop .ensures)) (times-read (lent (c .before .before .before .before .before .before .before .before .before .before .before .before .before .before .before .before .before .before .before .before .before .before .args .heads) (c .before .before .before .before .before .before .before .before .before .before .before .before .before .before .before .before .before .before .before .before .before .before .args .routes) (c .before .before .before .before .before .before .before .before .before .before .before .before .before .before .before .before .before .before .before .before .before .before .args .positions) (c .before .before .before .before .before .before .before .before .before .before .before .before .before .before .before .before .before .before .before .before .before .before .args .arrivals) (c .before .before .before .before .before .before .before .before .before .before .before .before .before .before .before .before .before .before .before .before .before .before .args .departures) (c .before .before .before .before .before .before .before .before .before .before .before .before .before .before .before .before .before .before .before .before .before .before .args .walks)) (sym (c .before .before .before .before .before .before .before .before .before .before .enum-told2 .given .1) ∙ c .before .before .before .before .before .before .before .before .before .before .before .before .lowest-time .ensures)) (overtaken-read (lent (c .before .before .before .before .before .before .before .before .before .before .before .before .before .before .before .before .before .before .before .before .before .before .args .heads) (c .before .before .before .before .before .before .before .before .before .before .before .before .before .before .before .before .before .before .before .before .before .before .args .routes) (c .before .before .before .before .before .before .before .before .before .before .before .before .before .before .before .before .before .before .before .before .before .before .args .positions) (c .before .before .before .before .before .before .before .before .before .before .before .before .before .before .before .before .before .before .before .before .before .before .args .arrivals) (c .before .before .before .before .before .before .before .before .before .before .before .before .before .before .before .before .before .before .before .before .before .before .args .departures) (c .before .before .before .before .before .before .before .before .before .before .before .before .before .before .before .before .before .before .before .before .before .before .args .walks)) (sym (c .before .before .before .before .before .before .before .enum-told3 .given .1) ∙ c .before .before .before .before .before .before .before .before .before .lowest-overtaken .ensures)) (walks-read (lent (c .before .before .before .before .before .before .before .before .before .before .before .before .before .before .before .before .before .before .before .before .before .before .args .heads) (c .before .before .before .before .before .before .before .before .before .before .before .before .before .before .before .before .before .before .before .before .before .before .args .routes) (c .before .before .before .before .before .before .before .before .before .before .before .before .before .before .before .before .before .before .before .before .before .before .args .positions) (c .before .before .before .before .before .before .before .before .before .before .before .before .before .before .before .before .before .before .before .before .before .before .args .arrivals) (c .before .before .before .before .before .before .before .before .before .before .before .before .before .before .before .before .before .before .before .before .before .before .args .departures) (c .before .before .before .before .before .before .before .before .before .before .before .before .before .before .before .before .before .before .before .before .before .before .args .walks)) (sym (c .before .before .before .before .enum-told4 .given .1) ∙ c .before .before .before .before .before .before .lowest-walk .ensures)) (open-read (lent (c .before .before .before .before .before .before .before .before .before .before .before .before .before .before .before .before .before .before .before .before .before .before .args .heads) (c .before .before .before .before .before .before .before .before .before .before .before .before .before .before .before .before .before .before .before .before .before .before .args .routes) (c .before .before .before .before .before .before .before .before .before .before .before .before .before .before .before .before .before .before .before .before .before .before .args .positions) (c .before .before .before .before .before .before .before .before .before .before .before .before .before .before .before .before .before .before .before .before .before .before .args .arrivals) (c .before .before .before .before .before .before .before .before .before .before .before .before .before .before .before .before .before .before .before .before .before .before .args .departures) (c .before .before .before .before .before .before .before .before .before .before .before .before .before .before .before .before .before .before .before .before .before .before .args .walks)) (sym (c .before .p5 .given .1) ∙ c .before .before .before .lowest-open .ensures))
+returns-5 c = let a = c .before .before .before .before .before .before .before .before .before .before .before .before .before .before .before .before .before .before .before .before .before .before .args in let T = lent (a .heads) (a .routes) (a .positions) (a .arrivals) (a .departures) (a .walks) in refused-11 T (stops-read T (ap (λ (x : Totals). x .positions) (c .before .before .before .before .before .before .before .before .before .before .before .before .before .before .before .before .totals-of .ensures)) (sym (c .before .before .before .before .before .before .before .before .before .before .before .before .before .enum-told .given .1) ∙ c .before .before .before .before .before .before .before .before .before .before .before .before .before .before .before .lowest-stop .ensures)) (times-read T (sym (c .before .before .before .before .before .before .before .before .before .before .enum-told2 .given .1) ∙ c .before .before .before .before .before .before .before .before .before .before .before .before .lowest-time .ensures)) (overtaken-read T (sym (c .before .before .before .before .before .before .before .enum-told3 .given .1) ∙ c .before .before .before .before .before .before .before .before .before .lowest-overtaken .ensures)) (walks-read T (sym (c .before .before .before .before .enum-told4 .given .1) ∙ c .before .before .before .before .before .before .lowest-walk .ensures)) (open-read T (sym (c .before .p5 .given .1) ∙ c .before .before .before .lowest-open .ensures))
 
 enum-told-5 : tie.Need-enum-told-5
 enum-told-5 c = search needs
 
 returns-6 : tie.Need-returns-6
-returns-6 c = whole-passed (lent (c .before .before .before .before .before .before .before .before .before .before .before .before .before .before .before .before .before .before .before .before .before .args .heads) (c .before .before .before .before .before .before .before .before .before .before .before .before .before .before .before .before .before .before .before .before .before .args .routes) (c .before .before .before .before .before .before .before .before .before .before .before .before .before .before .before .before .before .before .before .before .before .args .positions) (c .before .before .before .before .before .before .before .before .before .before .before .before .before .before .before .before .before .before .before .before .before .args .arrivals) (c .before .before .before .before .before .before .before .before .before .before .before .before .before .before .before .before .before .before .before .before .before .args .departures) (c .before .before .before .before .before .before .before .before .before .before .before .before .before .before .before .before .before .before .before .before .before .args .walks)) (stops-read (lent (c .before .before .before .before .before .before .before .before .before .before .before .before .before .before .before .before .before .before .before .before .before .args .heads) (c .before .before .before .before .before .before .before .before .before .before .before .before .before .before .before .before .before .before .before .before .before .args .routes) (c .before .before .before .before .before .before .before .before .before .before .before .before .before .before .before .before .before .before .before .before .before .args .positions) (c .before .before .before .before .before .before .before .before .before .before .before .before .before .before .before .before .before .before .before .before .before .args .arrivals) (c .before .before .before .before .before .before .before .before .before .before .before .before .before .before .before .before .before .before .before .before .before .args .departures) (c .before .before .before .before .before .before .before .before .before .before .before .before .before .before .before .before .before .before .before .before .before .args .walks)) (ap (λ (x : Totals). x .positions) (c .before .before .before .before .before .before .before .before .before .before .before .before .before .before .before .totals-of .ensures)) (sym (c .before .before .before .before .before .before .before .before .before .before .before .before .enum-told .given .1) ∙ c .before .before .before .before .before .before .before .before .before .before .before .before .before .before .lowest-stop .ensures)) (times-read (lent (c .before .before .before .before .before .before .before .before .before .before .before .before .before .before .before .before .before .before .before .before .before .args .heads) (c .before .before .before .before .before .before .before .before .before .before .before .before .before .before .before .before .before .before .before .before .before .args .routes) (c .before .before .before .before .before .before .before .before .before .before .before .before .before .before .before .before .before .before .before .before .before .args .positions) (c .before .before .before .before .before .before .before .before .before .before .before .before .before .before .before .before .before .before .before .before .before .args .arrivals) (c .before .before .before .before .before .before .before .before .before .before .before .before .before .before .before .before .before .before .before .before .before .args .departures) (c .before .before .before .before .before .before .before .before .before .before .before .before .before .before .before .before .before .before .before .before .before .args .walks)) (sym (c .before .before .before .before .before .before .before .before .before .enum-told2 .given .1) ∙ c .before .before .before .before .before .before .before .before .before .before .before .lowest-time .ensures)) (overtaken-read (lent (c .before .before .before .before .before .before .before .before .before .before .before .before .before .before .before .before .before .before .before .before .before .args .heads) (c .before .before .before .before .before .before .before .before .before .before .before .before .before .before .before .before .before .before .before .before .before .args .routes) (c .before .before .before .before .before .before .before .before .before .before .before .before .before .before .before .before .before .before .before .before .before .args .positions) (c .before .before .before .before .before .before .before .before .before .before .before .before .before .before .before .before .before .before .before .before .before .args .arrivals) (c .before .before .before .before .before .before .before .before .before .before .before .before .before .before .before .before .before .before .before .before .before .args .departures) (c .before .before .before .before .before .before .before .before .before .before .before .before .before .before .before .before .before .before .before .before .before .args .walks)) (sym (c .before .before .before .before .before .before .enum-told3 .given .1) ∙ c .before .before .before .before .before .before .before .before .lowest-overtaken .ensures)) (walks-read (lent (c .before .before .before .before .before .before .before .before .before .before .before .before .before .before .before .before .before .before .before .before .before .args .heads) (c .before .before .before .before .before .before .before .before .before .before .before .before .before .before .before .before .before .before .before .before .before .args .routes) (c .before .before .before .before .before .before .before .before .before .before .before .before .before .before .before .before .before .before .before .before .before .args .positions) (c .before .before .before .before .before .before .before .before .before .before .before .before .before .before .before .before .before .before .before .before .before .args .arrivals) (c .before .before .before .before .before .before .before .before .before .before .before .before .before .before .before .before .before .before .before .before .before .args .departures) (c .before .before .before .before .before .before .before .before .before .before .before .before .before .before .before .before .before .before .before .before .before .args .walks)) (sym (c .before .before .before .enum-told4 .given .1) ∙ c .before .before .before .before .before .lowest-walk .ensures)) (open-read (lent (c .before .before .before .before .before .before .before .before .before .before .before .before .before .before .before .before .before .before .before .before .before .args .heads) (c .before .before .before .before .before .before .before .before .before .before .before .before .before .before .before .before .before .before .before .before .before .args .routes) (c .before .before .before .before .before .before .before .before .before .before .before .before .before .before .before .before .before .before .before .before .before .args .positions) (c .before .before .before .before .before .before .before .before .before .before .before .before .before .before .before .before .before .before .before .before .before .args .arrivals) (c .before .before .before .before .before .before .before .before .before .before .before .before .before .before .before .before .before .before .before .before .before .args .departures) (c .before .before .before .before .before .before .before .before .before .before .before .before .before .before .before .before .before .before .before .before .before .args .walks)) (sym (c .enum-told5 .given .1) ∙ c .before .before .lowest-open .ensures))
+returns-6 c = let a = c .before .before .before .before .before .before .before .before .before .before .before .before .before .before .before .before .before .before .before .before .before .args in let T = lent (a .heads) (a .routes) (a .positions) (a .arrivals) (a .departures) (a .walks) in whole-passed T (stops-read T (ap (λ (x : Totals). x .positions) (c .before .before .before .before .before .before .before .before .before .before .before .before .before .before .before .totals-of .ensures)) (sym (c .before .before .before .before .before .before .before .before .before .before .before .before .enum-told .given .1) ∙ c .before .before .before .before .before .before .before .before .before .before .before .before .before .before .lowest-stop .ensures)) (times-read T (sym (c .before .before .before .before .before .before .before .before .before .enum-told2 .given .1) ∙ c .before .before .before .before .before .before .before .before .before .before .before .lowest-time .ensures)) (overtaken-read T (sym (c .before .before .before .before .before .before .enum-told3 .given .1) ∙ c .before .before .before .before .before .before .before .before .lowest-overtaken .ensures)) (walks-read T (sym (c .before .before .before .enum-told4 .given .1) ∙ c .before .before .before .before .before .lowest-walk .ensures)) (open-read T (sym (c .enum-told5 .given .1) ∙ c .before .before .lowest-open .ensures))
 
 pub whole-fault-spec : {M : Type 1} → statement M
 whole-fault-spec =
