@@ -7,6 +7,7 @@ use native.Mathlib.Numerals.{add-one}
 use native.Mathlib.Omega.{arith}
 use lib.ListN.{length, getD, set, take, replicate, length-replicate}
 use lib.Seq.{length-take-le, take-suc, take-all}
+use borrow.Author.Tests.{le-ltb}
 use Rattle.laws.specs.Lists.{over}
 use Rattle.laws.proofs.Lists.{length-over, over-store}
 use Rattle.paper.specs.Timetable.{Tables}
@@ -52,13 +53,9 @@ back-fit = fit-of backToStart refl (omega arith) (omega arith) (omega arith) (om
 abbrev pub zeroToTwo : ℕ → ℕ → Question
 zeroToTwo time budget = record { start = 0; target = 2; time = time; limit = 8; budget = budget }
 
-pub bridge-askable : Askable (filled bridge) (zeroToTwo 100 100)
+pub bridge-askable : (limit budget : ℕ) → limit ≤ 8 → Askable (filled bridge) (record { start = 0; target = 2; time = 100; limit = limit; budget = budget })
 unfolding opened
-bridge-askable = record { fit = bridge-fit; good = refl }
-
-pub bridge-less : Askable (filled bridge) (zeroToTwo 100 12)
-unfolding opened
-bridge-less = record { fit = bridge-fit; good = refl }
+bridge-askable limit budget l = record { fit = bridge-fit; good = le-ltb 8 limit l }
 
 pub halt-askable : Askable (filled longHalt) (zeroToTwo 55 100)
 unfolding opened

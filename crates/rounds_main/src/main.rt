@@ -90,8 +90,10 @@ fn ask(
     print_rows(&labels, heads.stops);
 }
 
-// The bridge network: 0 to 2 at 100, within 100 and within 12; and at 101.
-fn bridge() {
+// The bridge network: 0 to 2 at 100, with so many rides and so much work.
+fn ask_bridge(limit: u32, budget: u32)
+    requires { ⌜ limit ≤ 8 ⌝ }
+{
     let mut routes: [u32; 256] = [0; 256];
     let mut positions: [u32; 2048] = [0; 2048];
     let mut arrivals: [u32; 2048] = [0; 2048];
@@ -117,8 +119,8 @@ fn bridge() {
         start: 0,
         target: 2,
         time: 100,
-        limit: 8,
-        budget: 100,
+        limit,
+        budget,
     };
     ask(
         heads,
@@ -129,22 +131,14 @@ fn bridge() {
         &walks,
         q,
     );
-    let less = Question {
-        start: 0,
-        target: 2,
-        time: 100,
-        limit: 8,
-        budget: 12,
-    };
-    ask(
-        heads,
-        &routes,
-        &positions,
-        &arrivals,
-        &departures,
-        &walks,
-        less,
-    );
+}
+
+// Its rounds cost 3, 5 and 5: the work of one, of two and of all; and a budget that the third passes.
+fn bridge() {
+    ask_bridge(1, 100);
+    ask_bridge(2, 100);
+    ask_bridge(8, 100);
+    ask_bridge(8, 12);
 }
 
 // The long halt: 0 to 2 at 55.
