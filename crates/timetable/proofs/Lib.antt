@@ -1,7 +1,7 @@
 -- What the functions' proofs cite.
 pub mod Loops
-pub mod Counts
-pub mod Events
+pub mod CountTests
+pub mod EventTests
 pub mod WalkTests
 pub mod Routes
 pub mod Closure
