@@ -1,5 +1,4 @@
 // Fletcher's sum of a run of bytes.
-ghost use mathlib.Core.Path.{_≡_};
 ghost use Prim.Native.Nat.{_<_};
 ghost use Rattle.paper.specs.Feed.{fletcherStep, fletcherOf};
 ghost use Rattle.checksum.specs.Small.{Small, Is};

@@ -13,7 +13,7 @@ use lib.ListN.{length, getD, set, replicate, length-append, length-replicate}
 use lib.Seq.{sets, length-sets, set-append-seam}
 use Rattle.laws.specs.Below.{mark, minBelow}
 use Rattle.laws.specs.Lists.{tab, pieces, over}
-use Rattle.laws.proofs.Tests.{by-test, by-lt}
+use Rattle.laws.proofs.Tests.{by-lt}
 use Rattle.laws.proofs.Below.{minBelow-next}
 use Rattle.laws.proofs.Lists.{length-tab, length-pieces, pieces-same, length-over, over-over}
 use Rattle.paper.specs.Timetable.{Tables}
@@ -24,7 +24,6 @@ use Rattle.paper.specs.declared.Entry.{Entry}
 use Rattle.paper.specs.declared.Question.{Question}
 use Rattle.paper.proofs.Answers.{length-legs}
 use Rattle.paper.proofs.Entries.{entry-gained}
-use Rattle.paper.proofs.Listing.{entry-listed}
 use Rattle.journeys.specs.ReadBack.{legsIn, Traceable, Readable, ReadBack}
 use Rattle.laws.proofs.Runs.{mark-is, over-sets-piece, sets-marks, and-none}
 use Rattle.journeys.proofs.Labelled.{good-of, labels-room, label-at, leads-of, legs-same, legs-fit}

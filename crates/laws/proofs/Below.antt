@@ -141,15 +141,6 @@ firstBelow-hit (suc k) p h =
 pub firstBelow-of : (k : ℕ) (p : ℕ → Bool) (i : ℕ) → i < k → p i ≡ true → firstBelow k p ≤ i
 firstBelow-of k p i _ h = by-lt i (firstBelow k p) (λ l. both-ways h (firstBelow-not k p i l)) (λ l. l)
 
--- where p holds of some number below k, it holds of the first
-pub firstBelow-any : (k : ℕ) (p : ℕ → Bool) → anyBelow k p ≡ true → (firstBelow k p < k) × (p (firstBelow k p) ≡ true)
-firstBelow-any k p e =
-    let x = anyBelow-hit k p e in
-    let a = firstBelow-of k p (x .0) (x .1) (x .2) in
-    let b : x .0 < k = x .1 in
-    let l : firstBelow k p < k = omega arith in
-    (l, firstBelow-hit k p l)
-
 -- the first is the only number with nothing before it and, where it is below k, with p at it
 pub firstBelow-only : (k : ℕ) (p : ℕ → Bool) (r : ℕ) → r ≤ k → ((i : ℕ) → i < r → p i ≡ false) → (r < k → p r ≡ true) → firstBelow k p ≡ r
 firstBelow-only k p r h before at =
@@ -162,13 +153,6 @@ firstBelow-only k p r h before at =
 
 pub firstBelow-is : (k : ℕ) (p : ℕ → Bool) (n : ℕ) → n < k → p n ≡ true → ((i : ℕ) → i < n → p i ≡ false) → firstBelow k p ≡ n
 firstBelow-is k p n l h f = firstBelow-only k p n (omega arith) f (λ _. h)
-
-pub firstBelow-same : (k : ℕ) (p q : ℕ → Bool) → ((i : ℕ) → i < k → p i ≡ q i) → firstBelow k p ≡ firstBelow k q
-firstBelow-same k p q h =
-    let le = firstBelow-le k q in
-    firstBelow-only k p (firstBelow k q) le
-    (λ i l. h i (omega arith) ∙ firstBelow-not k q i l)
-    (λ l. h (firstBelow k q) l ∙ firstBelow-hit k q l)
 
 -- ---- sumBelow
 

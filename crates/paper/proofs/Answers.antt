@@ -1,24 +1,22 @@
 -- What the labels and legs tables hold, and which reply a question gets, place by place.
-use mathlib.Core.Path.{_≡_, refl, sym, ap, _∙_}
-use mathlib.Core.Logic.{_≢_}
-use mathlib.Core.Bool.{Bool, true, false, cond, not, _&&_, _||_}
+use mathlib.Core.Path.{_≡_, refl, ap, _∙_}
+use mathlib.Core.Bool.{Bool, true, false, cond, _&&_}
 use mathlib.Core.List.{List, [], _∷_, _++_}
-use mathlib.Core.Option.{Option, none, some}
-use Prim.Native.Nat.{ℕ, zero, suc, _+_, _*_, _-_, _≤_, _<_}
+use mathlib.Core.Option.{none}
+use Prim.Native.Nat.{ℕ, suc, _+_, _*_, _≤_, _<_}
 use native.Mathlib.Omega.{arith}
-use lib.Dec.{eqb, leb, ltb}
+use lib.Dec.{leb}
 use lib.ListN.{length, getD, replicate, length-append, length-replicate}
-use lib.Seq.{ext-getD}
-use borrow.Author.Tests.{ltb-true, ltb-false, leb-true, lt-ltb, le-ltb, le-leb, lt-leb, eq-eqb, ne-eqb}
+use borrow.Author.Tests.{lt-ltb, le-ltb, le-leb, lt-leb}
 use Rattle.laws.specs.Below.{mark, orElse, given, firstFound}
-use Rattle.laws.specs.Lists.{tab, pieces, part, over}
+use Rattle.laws.specs.Lists.{tab, pieces}
 use Rattle.laws.proofs.Tests.{and-true, by-test, by-lt}
-use Rattle.laws.proofs.Lists.{length-tab, getD-tab, length-pieces, getD-pieces, pieces-same, getD-part, length-part-of, getD-over, length-over}
-use Rattle.paper.specs.Timetable.{Tables, fullSizes}
-use Rattle.paper.specs.Rules.{Refusal, Sound, refusedBy, faultOf}
+use Rattle.laws.proofs.Lists.{length-tab, getD-tab, length-pieces, getD-pieces, pieces-same}
+use Rattle.paper.specs.Timetable.{Tables}
+use Rattle.paper.specs.Rules.{refusedBy, faultOf}
 use Rattle.paper.specs.Rows.{label, rowOf}
-use Rattle.paper.specs.Tie.{isEntry, entriesBelow, entriesOf, legsOf, numbersOf}
-use Rattle.paper.specs.Reply.{shortTable, lengthsOf, questionBroken, refusal, labelsTable, legNumbers, legsRow, legsTable, askUnless, askOf, searched}
+use Rattle.paper.specs.Tie.{isEntry, entriesBelow, entriesOf, legsOf}
+use Rattle.paper.specs.Reply.{shortTable, lengthsOf, questionBroken, labelsTable, legNumbers, legsRow, legsTable, askOf, searched}
 use Rattle.paper.specs.Demands.{Ready}
 use Rattle.paper.specs.declared.Question.{Question}
 use Rattle.paper.specs.declared.Leg.{Leg}

@@ -1,18 +1,17 @@
 -- Rows, work, entries, legs and tables do not look at the budget.
-use mathlib.Core.Path.{_≡_, refl, sym, ap, _∙_, fun-ext}
-use mathlib.Core.Bool.{Bool, cond, not, _&&_}
+use mathlib.Core.Path.{_≡_, refl, ap, _∙_, fun-ext}
+use mathlib.Core.Bool.{cond, not}
 use mathlib.Core.List.{List, [], _∷_, _++_}
-use mathlib.Core.Option.{Option, none, some}
-use Prim.Native.Nat.{ℕ, zero, suc, _+_, min}
+use mathlib.Core.Option.{none, some}
+use Prim.Native.Nat.{ℕ, zero, suc, min}
 use lib.Dec.{leb, ltb}
-use lib.ListN.{getD, replicate}
 use Rattle.laws.specs.Below.{mark, minBelow, firstBelow, sumBelow}
 use Rattle.laws.specs.Lists.{tab, pieces}
 use Rattle.paper.specs.Timetable.{Tables}
 use Rattle.paper.specs.Rows.{label, nextRow, firstRow, rowOf}
 use Rattle.paper.specs.Work.{roundCost, improves, roundsRun, workTo, workOf}
 use Rattle.paper.specs.Tie.{isEntry, entryOf, entriesBelow, entriesOf, firstStep, boardStop, legsOf}
-use Rattle.paper.specs.Reply.{labelsTable, legNumbers, legsRow, legsTable}
+use Rattle.paper.specs.Reply.{labelsTable, legsRow, legsTable}
 use Rattle.paper.specs.Demands.{withBudget}
 use Rattle.paper.specs.declared.Question.{Question}
 use Rattle.paper.specs.declared.Entry.{Entry}

@@ -1,39 +1,38 @@
 -- The user's demands hold of `replyOf`, for every input.
 use mathlib.Core.Path.{_≡_, refl, sym, ap, _∙_, subst}
-use mathlib.Core.Logic.{_≢_, _⊎_, inl, inr, _↔_}
+use mathlib.Core.Logic.{_≢_, _⊎_, inl, inr}
 use mathlib.Core.Bool.{Bool, true, false, cond}
 use mathlib.Core.List.{List, [], _∷_, _++_}
 use mathlib.Core.Option.{Option, none, some}
 use Prim.Native.Nat.{ℕ, zero, suc, _+_, _*_, _-_, _≤_, _<_}
-use native.Mathlib.Nat.{le-refl, le-trans, le-of-eq, le-antisymm}
+use native.Mathlib.Nat.{le-of-eq, le-antisymm}
 use native.Mathlib.Decide.{ℕ-discrete}
 use native.Mathlib.Omega.{arith}
-use lib.Dec.{eqb, leb, ltb}
+use lib.Dec.{eqb, ltb}
 use lib.ListN.{length, getD, drop, replicate, length-replicate, List·getD-append}
 use lib.Seq.{ext-getD}
-use borrow.Author.Tests.{ltb-true, ltb-false, lt-ltb, le-ltb, eqb-true, eqb-false, eq-eqb, ne-eqb}
+use borrow.Author.Tests.{lt-ltb, le-ltb, eq-eqb, ne-eqb}
 use Rattle.laws.specs.Below.{mark, orElse, given}
 use Rattle.laws.specs.Lists.{part, over}
-use Rattle.laws.proofs.Tests.{by-test, by-lt, both-ways}
+use Rattle.laws.proofs.Tests.{by-lt}
 use Rattle.laws.proofs.Lists.{getD-part, length-part-of, getD-over, length-over, drop-over}
 use Rattle.paper.specs.Timetable.{Tables}
-use Rattle.paper.specs.Rules.{Refusal, Sound, faultOf}
+use Rattle.paper.specs.Rules.{Refusal, faultOf}
 use Rattle.paper.specs.Journey.{Journey}
 use Rattle.paper.specs.Rows.{label, rowOf, Earliest}
-use Rattle.paper.specs.Work.{workOf, limitOf, passingRound}
-use Rattle.paper.specs.Tie.{isEntry, entryOf, entriesBelow, entriesOf, legsOf, legsOfJourney, ByTieRule}
+use Rattle.paper.specs.Work.{workOf, passingRound}
+use Rattle.paper.specs.Tie.{isEntry, entryOf, entriesOf, legsOf}
 use Rattle.paper.specs.Reply.{Reply, Asking, Kept, Marked, Labelled, Answered, zeroEntry, inNine, answered, refused, refusal, labelsTable, legsTable, legNumbers, askUnless, askOf, searched, shortTable, lengthsOf, questionBroken, answerAs, labelsAfter, legsAfter, replyOf}
-use Rattle.paper.specs.Demands.{Ready, Demand1, Lists, Best, LegsRun, Demand2, withBudget, Demand3}
+use Rattle.paper.specs.Demands.{Ready, Demand1, Best, LegsRun, Demand2, withBudget, Demand3}
 use Rattle.paper.specs.declared.Question.{Question}
 use Rattle.paper.specs.declared.Entry.{Entry}
 use Rattle.paper.specs.declared.Verdict.{Verdict}
-use Rattle.paper.specs.declared.Answer.{Answer}
 use Rattle.paper.proofs.Checks.{none-of}
 use Rattle.paper.proofs.Usable.{Usable, Asked, usable-of}
 use Rattle.paper.proofs.Earliest.{earliest, row-le, row-journey, journey-arrives}
 use Rattle.paper.proofs.Legs.{legs-journey, legs-by-rule, legs-length}
-use Rattle.paper.proofs.Entries.{entry-is, entry-gained, entry-of, entry-journeys, some-entry, entries-few}
-use Rattle.paper.proofs.Listing.{Listed, From, entry-listed, listed-entry, entries-rise}
+use Rattle.paper.proofs.Entries.{entry-gained, entry-of, entry-journeys, some-entry}
+use Rattle.paper.proofs.Listing.{entry-listed, listed-entry, entries-rise}
 use Rattle.paper.proofs.WorkLimit.{work-limit}
 use Rattle.paper.proofs.Budget.{work-same, entries-same, labels-same, legsTable-same}
 use Rattle.paper.proofs.Answers.{length-labels, labels-at, length-legs, legs-at, length-numbers, ready-asked}

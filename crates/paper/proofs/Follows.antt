@@ -1,5 +1,5 @@
 -- A feed is accepted exactly when it follows document 01: it is the feed of a sound timetable, and that timetable is what is read.
-use mathlib.Core.Path.{_≡_, refl, sym, ap, _∙_}
+use mathlib.Core.Path.{_≡_, sym, ap, _∙_}
 use mathlib.Core.Logic.{_↔_}
 use mathlib.Core.List.{List}
 use Prim.Native.Nat.{ℕ}

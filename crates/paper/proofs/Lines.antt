@@ -78,10 +78,6 @@ pub without-append : {z : ℕ} {xs ys : List ℕ} → Without z xs → Without z
 without-append blank w = w
 without-append (also e v) w = also e (without-append v w)
 
-pub without-left : {z : ℕ} (xs ys : List ℕ) → Without z (xs ++ ys) → Without z xs
-without-left [] ys w = blank
-without-left (x ∷ xs) ys (also e w) = also e (without-left xs ys w)
-
 pub without-right : {z : ℕ} (xs ys : List ℕ) → Without z (xs ++ ys) → Without z ys
 without-right [] ys w = w
 without-right (x ∷ xs) ys (also e w) = without-right xs ys w

@@ -10,7 +10,7 @@ use borrow.Author.Tests.{not-true, eqb-true, eqb-false, leb-true, eq-eqb, ne-eqb
 use lib.Dec.{eqb, leb}
 use Rattle.laws.specs.Below.{mark, only, minBelow, anyBelow}
 use Rattle.laws.proofs.Tests.{and-both, and-true}
-use Rattle.laws.proofs.Below.{only-true, only-hit, minBelow-le, minBelow-hit, minBelow-mark, anyBelow-hit, anyBelow-of}
+use Rattle.laws.proofs.Below.{only-true, only-hit, minBelow-le, minBelow-hit, anyBelow-hit, anyBelow-of}
 use Rattle.paper.specs.Timetable.{Route, Tables, stopAt, arriveAt, departAt, routeOf}
 use Rattle.paper.specs.Rows.{label, boards, rideOn, rideTo}
 use Rattle.paper.specs.Journey.{Ride}
@@ -78,10 +78,6 @@ rideOn-hit R row s h =
       boarded = b .2;
       arrives = sym (w .1) ∙ v .2 ∙ sym (y .1) ∙ x .2;
     }
-
-pub rideTo-mark : (T : Tables) (row : List ℕ) (s : ℕ) → rideTo T row s ≤ mark
-unfolding rideTo
-rideTo-mark T row s = minBelow-mark (T .routes) λ r. rideOn (routeOf T r) row s
 
 pub rideTo-le : (T : Tables) (row : List ℕ) {b a s t : ℕ} (x : Ride T b a s t) → label row b ≤ a → label row b ≢ mark → rideTo T row s ≤ t
 unfolding rideTo

@@ -27,10 +27,6 @@ module _ (T : Tables) (q : Question) where
   abbrev idle : ℕ → Bool
   idle k = not (improves T (rowOf T q k))
 
-  pub rounds-le : roundsRun T q ≤ q .limit
-  unfolding roundsRun
-  rounds-le = omega arith
-
   pub rounds-stop : (k : ℕ) → roundsRun T q ≤ k → k ≤ q .limit → rowOf T q k ≡ rowOf T q (roundsRun T q)
   unfolding roundsRun
   rounds-stop k l m =

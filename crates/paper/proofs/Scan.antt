@@ -1,9 +1,9 @@
 -- Why one look at a route is enough: where no trip overtakes, only the earliest trip that could be boarded before a position matters there.
 use mathlib.Core.Path.{_≡_, sym, ap, _∙_}
-use mathlib.Core.Logic.{_≢_, ⊎-elim}
+use mathlib.Core.Logic.{⊎-elim}
 use mathlib.Core.Bool.{true}
 use mathlib.Core.List.{List}
-use Prim.Native.Nat.{ℕ, zero, suc, _+_, _-_, _≤_, _<_, min}
+use Prim.Native.Nat.{ℕ, zero, suc, _+_, _≤_, _<_}
 use native.Mathlib.Nat.{le-refl, le-antisymm}
 use native.Mathlib.Omega.{arith}
 use borrow.Author.Tests.{lt-ltb, le-ltb}
@@ -11,26 +11,16 @@ use lib.Dec.{eqb, ltb}
 use Rattle.laws.specs.Below.{mark, only, minBelow, anyBelow}
 use Rattle.laws.proofs.Tests.{by-test, by-lt, min-is, climb}
 use Rattle.laws.proofs.Below.{only-true, only-false, minBelow-le, minBelow-mark, le-minBelow, minBelow-same, anyBelow-hit, anyBelow-of, firstBelow-of, firstBelow-hit}
-use Rattle.paper.specs.Timetable.{Tables, Route, routeOf, stopAt, arriveAt, departAt}
-use Rattle.paper.specs.Rules.{Sound}
-use Rattle.paper.specs.Rows.{label, boards, rideOn, rideTo}
+use Rattle.paper.specs.Timetable.{Route, stopAt, arriveAt, departAt}
+use Rattle.paper.specs.Rows.{boards, rideOn}
 use Rattle.paper.specs.Work.{firstCaught, caught}
-use Rattle.paper.proofs.Rides.{boards-of, boards-is, onTrip}
+use Rattle.paper.proofs.Rides.{onTrip}
 
 -- a later trip is at no position earlier, and times are below the mark
 pub record Orderly (R : Route) : Type 0 where
   pub departs : (j i : ℕ) → j + 1 < R .m → i < R .n → departAt R j i ≤ departAt R (j + 1) i
   pub arrives : (j i : ℕ) → j + 1 < R .m → i < R .n → arriveAt R j i ≤ arriveAt R (j + 1) i
   pub arrive< : (j i : ℕ) → j < R .m → i < R .n → arriveAt R j i < mark
-
--- document 01's rules give it
-pub orderly-of : (T : Tables) → Sound T → (r : ℕ) → r < T .routes → Orderly (routeOf T r)
-unfolding routeOf mark
-orderly-of T sound r l = record {
-  departs = λ j i m k. sound .no-overtaking r j i l m k .departs;
-  arrives = λ j i m k. sound .no-overtaking r j i l m k .arrives;
-  arrive< = λ j i m k. let h = sound .times r j i l m k .arrive< in omega arith;
-}
 
 module _ (R : Route) (row : List ℕ) where
   -- the first trip at i is at most each trip that can be boarded there
@@ -68,15 +58,6 @@ module _ (R : Route) (row : List ℕ) where
       (λ e. (l, le-refl (suc l), ap (λ (j : ℕ). boards R row j l) e ∙ firstCaught-boards l (omega arith)))
       (min-is (caught R row l) (firstCaught R row l))
 
-  -- an unreached position changes nothing
-  pub caught-unreached : (i : ℕ) → label row (stopAt R i) ≡ mark → caught R row (suc i) ≡ caught R row i
-  unfolding caught
-  caught-unreached i e =
-      let a = caught-le i in
-      by-lt (firstCaught R row i) (R .m)
-      (λ l. absurd (boards-is R row (firstCaught R row i) i (firstCaught-boards i l) .0 e))
-      (λ l. omega arith)
-
 -- what a scan brings to position l: the arrival there of the earliest trip that could be boarded before l
 unfoldable pub scanAt : Route → List ℕ → ℕ → ℕ
 scanAt R row l = only (ltb (caught R row l) (R .m)) (arriveAt R (caught R row l) l)
@@ -113,26 +94,3 @@ module _ (R : Route) (order : Orderly R) (row : List ℕ) where
   pub scan-is : (s : ℕ) → rideOn R row s ≡ scanOn R row s
   unfolding rideOn scanOn
   scan-is s = minBelow-same (R .n) _ _ λ l h. ap (only (eqb (stopAt R l) s)) (place-is l h)
-
--- and so over all routes
-pub scans-are : (T : Tables) → ((r : ℕ) → r < T .routes → Orderly (routeOf T r)) → (row : List ℕ) (s : ℕ) →
-    rideTo T row s ≡ minBelow (T .routes) λ r. scanOn (routeOf T r) row s
-unfolding rideTo
-scans-are T h row s = minBelow-same (T .routes) _ _ λ r l. scan-is (routeOf T r) (h r l) row s
-
--- Going down from trip c while the trip before can be caught at position i stops at the trip that a scan has after i. The compares are
--- one for each trip gone down, and one that fails unless trip 0 is reached: what `costAt` counts
-pub went-down : (R : Route) (row : List ℕ) (i c d : ℕ) → Orderly R → i < R .n → label row (stopAt R i) ≢ mark → c ≤ R .m → d ≤ c →
-    ((j : ℕ) → d ≤ j → j < c → label row (stopAt R i) ≤ departAt R j i) → (0 < d → departAt R (d - 1) i < label row (stopAt R i)) →
-    min c (firstCaught R row i) ≡ d
-went-down R row i c d order hi m hc hd caught-all not-one =
-    let e = firstCaught R row i in
-    let l : d ≤ e = by-lt e d
-    (λ l. let x = boards-is R row e i (firstCaught-boards R row i (omega arith)) .1 in
-    let y = not-one (omega arith) in
-    let z : departAt R e i ≤ departAt R (d - 1) i = climb (λ j. departAt R j i) (R .m) (λ j k. order .departs j i k hi) e (d - 1) (omega arith) (omega arith) in
-    absurd (omega arith))
-    (λ l. l) in
-    by-lt d c
-    (λ k. let u = firstCaught-of R row i d (omega arith) (boards-of R row d i m (caught-all d (le-refl d) k)) in omega arith)
-    (λ k. omega arith)

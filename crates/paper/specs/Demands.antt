@@ -13,7 +13,6 @@ use Rattle.paper.specs.Work.{workOf, limitOf, passingRound}
 use Rattle.paper.specs.Tie.{legsOfJourney, ByTieRule}
 use Rattle.paper.specs.Reply.{Reply, zeroEntry, legNumbers, replyOf}
 use Rattle.paper.specs.declared.Question.{Question}
-use Rattle.paper.specs.declared.Entry.{Entry}
 use Rattle.paper.specs.declared.Verdict.{Verdict}
 use Rattle.paper.specs.declared.Answer.{Answer}
 

@@ -2,7 +2,7 @@
 use mathlib.Core.Path.{_≡_}
 use mathlib.Core.List.{List, [], _∷_, map}
 use Prim.Native.Nat.{ℕ}
-use lib.ListN.{length, take}
+use lib.ListN.{take}
 use Rattle.laws.specs.Below.{mark}
 use Rattle.laws.specs.Lists.{tab}
 use Rattle.paper.specs.Timetable.{Tables}

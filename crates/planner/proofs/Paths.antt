@@ -1,6 +1,6 @@
 -- The ways through `ask`, each with the reply that it ends in.
 use mathlib.Core.Path.{_≡_, refl, sym, ap, _∙_}
-use mathlib.Core.Bool.{Bool, true, false}
+use mathlib.Core.Bool.{true, false}
 use mathlib.Core.List.{List, [], _∷_, _++_}
 use mathlib.Core.Option.{Option, none, some}
 use Prim.Native.Nat.{ℕ, _+_, _≤_, _<_}
@@ -8,7 +8,7 @@ use native.Mathlib.Omega.{arith}
 use lib.Dec.{eqb, ltb}
 use lib.ListN.{length, getD, replicate}
 use borrow.Author.Tests.{ltb-false, eqb-true}
-use Rattle.laws.specs.Below.{mark, orElse, given, firstFound}
+use Rattle.laws.specs.Below.{mark, orElse, given}
 use Rattle.laws.specs.Lists.{over}
 use Rattle.laws.proofs.Tests.{by-test}
 use Rattle.laws.proofs.Found.{firstFound-never}
@@ -16,7 +16,7 @@ use Rattle.paper.specs.Timetable.{Tables, fullSizes}
 use Rattle.paper.specs.Rules.{Refusal, refusedBy, faultOf, Fit}
 use Rattle.paper.specs.Work.{workOf, passingRound}
 use Rattle.paper.specs.Tie.{entriesOf}
-use Rattle.paper.specs.Reply.{Reply, Asking, Kept, Marked, Labelled, Answered, refusal, shortTable, lengthsOf, questionBroken, askOf, searched, refused, answered, answerAs, labelsAfter, legsAfter, replyOf}
+use Rattle.paper.specs.Reply.{Asking, Kept, Marked, Labelled, Answered, refusal, shortTable, lengthsOf, questionBroken, askOf, searched, refused, answerAs, labelsAfter, legsAfter, replyOf}
 use Rattle.paper.specs.Demands.{Ready}
 use Rattle.paper.specs.declared.Question.{Question}
 use Rattle.paper.specs.declared.Entry.{Entry}

@@ -1,8 +1,6 @@
 // One question answered: every refusal in 01's order, then labels, work, entries and legs.
 ghost use mathlib.Core.Path.{_≡_};
 ghost use mathlib.Core.List.{[], _∷_};
-ghost use Prim.Native.Nat.{_≤_};
-ghost use lib.ListN.{length};
 ghost use Rattle.paper.specs.Timetable.{tables, lent};
 ghost use Rattle.paper.specs.Reply.{shortTable, questionBroken, refused, refusal, replyOf};
 ghost use Rattle.timetable.specs.Places.{faultAs};

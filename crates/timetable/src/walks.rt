@@ -80,7 +80,14 @@ pub fn seconds_from(stops: u32, count: u32, walks: &[u32], begins: &[u32], a: u3
 }
 
 // 11: walk v, a to b, is followed by a walk b to c, and no walk a to c takes no longer than both.
-pub fn opens_at(stops: u32, count: u32, walks: &[u32], begins: &[u32], seconds: &[u32], v: u32) -> bool
+pub fn opens_at(
+    stops: u32,
+    count: u32,
+    walks: &[u32],
+    begins: &[u32],
+    seconds: &[u32],
+    v: u32,
+) -> bool
     requires { ⌜ OnWalk (ofWalks stops count (now walks)) (now begins) (now seconds) v ⌝ }
     ensures { λ r. ⌜ r ≡ opens (ofWalks stops count (now (walks .entry))) v ⌝ }
 {
