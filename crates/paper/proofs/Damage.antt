@@ -15,7 +15,8 @@ use Rattle.paper.specs.Timetable.{Tables}
 use Rattle.paper.specs.declared.Sum.{Sum}
 use Rattle.paper.specs.Feed.{fletcherStep, fletcherFrom, fletcherOf}
 use Rattle.paper.specs.Reading.{Untouched, Accepted, lengthRight, sumRight, readOf}
-use Rattle.paper.proofs.Accepted.{Bytes, passed, length-says, sum-says}
+use Rattle.paper.proofs.Accepted.{passed, length-says, sum-says}
+use Rattle.paper.specs.Demands.{Bytes}
 
 -- ---- the length
 

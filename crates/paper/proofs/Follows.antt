@@ -5,19 +5,13 @@ use mathlib.Core.List.{List}
 use Prim.Native.Nat.{ℕ}
 use Rattle.laws.proofs.Found.{orElse-none}
 use Rattle.paper.specs.Timetable.{Tables}
-use Rattle.paper.specs.Rules.{Sound, wholeRules, firstBroken, faultOf}
-use Rattle.paper.specs.Feed.{feedOf}
+use Rattle.paper.specs.Rules.{wholeRules, firstBroken, faultOf}
 use Rattle.paper.specs.Reading.{Accepted, readOf}
 use Rattle.paper.proofs.Checks.{sound-of, whole-none}
-use Rattle.paper.proofs.ReadBack.{Exact, read-feed}
-use Rattle.paper.proofs.Accepted.{Bytes, accepted}
+use Rattle.paper.proofs.ReadBack.{read-feed}
+use Rattle.paper.proofs.Accepted.{accepted}
 use Rattle.paper.proofs.WellRead.{counts-unbroken}
-
--- T is sound, its tables have just the length that is used, and f is its feed
-pub record Follows (f : List ℕ) (T : Tables) : Type 0 where
-  pub sound : Sound T
-  pub exact : Exact T
-  pub feed : feedOf T ≡ f
+use Rattle.paper.specs.Demands.{Bytes, Follows}
 
 pub accepted-follows : (f : List ℕ) → Bytes f → (T : Tables) → (readOf f ≡ Accepted T) ↔ Follows f T
 unfolding faultOf

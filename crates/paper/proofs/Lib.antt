@@ -19,9 +19,11 @@ pub mod Entries
 pub mod Listing
 pub mod Written
 pub mod FeedRecords
+pub mod TripsBack
 pub mod ReadBack
 pub mod FeedTrips
 pub mod FeedRoutes
+pub mod FeedWalks
 pub mod Accepted
 pub mod Damage
 pub mod Agree
@@ -30,6 +32,8 @@ pub mod Follows
 pub mod FeedLongest
 pub mod Budget
 pub mod Answers
+pub mod Best
+pub mod Demand1
 pub mod Demands
 pub mod Lines
 pub mod Printed

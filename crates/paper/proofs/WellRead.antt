@@ -17,12 +17,12 @@ use Rattle.paper.specs.Rules.{firstBroken, countRules, routeBroken}
 use Rattle.paper.specs.Reading.{Routes, nextRoute, noRoutes, Walks, nextWalk, Whole, ended, recordsOf, headBad, headOnly, wholeOf, tablesIn}
 use Rattle.paper.proofs.Written.{Counts}
 use Rattle.paper.proofs.FeedRecords.{walk-good, walk-before}
-use Rattle.paper.proofs.ReadBack.{Exact}
 use Rattle.paper.proofs.FeedTrips.{front-same}
 use Rattle.paper.proofs.FeedRoutes.{Upto, upto}
 use Rattle.paper.proofs.Lowest.{lowest-none}
 use Rattle.paper.proofs.Places.{heads-whole, route-whole}
 use Rattle.paper.proofs.Checks.{counts-none}
+use Rattle.paper.specs.Demands.{Exact}
 
 -- right counts are refused by no rule of 5
 pub counts-unbroken : (T : Tables) → Counts T → firstBroken countRules T ≡ none
