@@ -10,3 +10,4 @@ pub mod Put
 pub mod Feed
 pub mod Judge
 pub mod Answers
+pub mod One
