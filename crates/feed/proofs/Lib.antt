@@ -1,5 +1,6 @@
 -- Laws of reading and writing, for the functions' proofs.
 pub mod Held
+pub mod Marks
 pub mod Trip
 pub mod Route
 pub mod Walk

@@ -1,13 +1,7 @@
--- Fields of a feed and elements of a table, as the code reads and puts them.
-use mathlib.Core.Path.{_≡_}
+-- Records of a feed and elements of a table, as the code reads and puts them.
 use mathlib.Core.List.{List}
 use Prim.Native.Nat.{ℕ, _+_, _≤_, _<_}
 use lib.ListN.{length}
-
--- r is the value, below the bound
-pub record Field (value bound r : ℕ) : Type 0 where
-  pub is : r ≡ value
-  pub small : r < bound
 
 -- a record of k bytes may be looked for at `at`, before e
 pub record Near (f : List ℕ) (e at k : ℕ) : Type 0 where

@@ -5,13 +5,15 @@ ghost use lib.ListN.{length};
 ghost use Rattle.laws.specs.Fields.{byte, two};
 ghost use Rattle.paper.specs.Reading.{ended, recordsOf, headBad, wholeOf, bodyOf, lengthRight, sumRight, cleared};
 ghost use Rattle.feed.specs.State.{Near4, Full, BodyRoom, HeadRoom, Ended, Cleared, Judged, Leaves};
-use crate::fields::byte_at;
-use crate::fields::stands;
-use crate::fields::two_at;
 use crate::routes::read_routes;
+use crate::standing::byte_at;
+use crate::standing::stands;
 use crate::walks::Foot;
 use crate::walks::read_walks;
 use checksum::fletcher;
+use fields::begins_in;
+use fields::byte_in;
+use fields::two_in;
 use paper::Heads;
 use paper::Reading;
 use timetable::Fault;
@@ -78,8 +80,8 @@ fn read_records(
     ensures { λ r. ⌜ Ended (recordsOf (now (f .entry)) (byte (now (f .entry)) 4) (two (now (f .entry)) 5)) r (now (routes .entry)) (now (routes .exit)) (now (positions .entry)) (now (positions .exit)) (now (arrivals .entry)) (now (arrivals .exit)) (now (departures .entry)) (now (departures .exit)) (now (walks .entry)) (now (walks .exit)) ⌝ }
 {
     let e = f.len() - 4;
-    let k = byte_at(f, 4) as usize;
-    let w = two_at(f, 5) as usize;
+    let k = byte_in(f, 0, 4) as usize;
+    let w = two_in(f, 0, 5) as usize;
     let q = read_routes(f, e, k, routes, positions, arrivals, departures);
     let s = Foot {
         bad: q.bad,
@@ -103,19 +105,16 @@ fn head_at(f: &[u8]) -> u32
     requires { ⌜ 13 ≤ length (now f) ⌝ }
     ensures { λ r. ⌜ r ≡ headBad (now (f .entry)) ⌝ }
 {
-    if f[0] != 84 {
+    if !begins_in(f, 0, 0x5448) {
         return 3;
     }
-    if f[1] != 72 {
-        return 3;
-    }
-    if f[2] != 1 {
+    if byte_in(f, 0, 2) != 1 {
         return 4;
     }
-    if 64 < f[4] {
+    if 64 < byte_in(f, 0, 4) {
         return 5;
     }
-    if 512 < two_at(f, 5) {
+    if 512 < two_in(f, 0, 5) {
         return 5;
     }
     0
@@ -162,9 +161,9 @@ fn fill(
         return Reading::Refused(bad, at as u32);
     }
     let heads = Heads {
-        stops: f[3] as u32 + 1,
-        routes: byte_at(f, 4),
-        walks: two_at(f, 5),
+        stops: byte_in(f, 0, 3) + 1,
+        routes: byte_in(f, 0, 4),
+        walks: two_in(f, 0, 5),
     };
     if let Fault::Refused(number, place) = whole_fault(
         heads,
@@ -212,7 +211,7 @@ pub fn length_fits(f: &[u8]) -> bool
     if 17869 < n {
         return false;
     }
-    two_at(f, 7) as usize == n
+    two_in(f, 0, 7) as usize == n
 }
 
 // Whether the last two bytes are the sum of all before them.

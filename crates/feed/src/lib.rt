@@ -10,8 +10,8 @@ ghost use Rattle.feed.specs.Writing.{tablesFault, Sends};
 
 mod body;
 mod bytes;
-mod fields;
 mod routes;
+mod standing;
 mod walks;
 mod writing;
 

@@ -9,10 +9,11 @@ ghost use Rattle.paper.specs.Rules.{counted};
 ghost use Rattle.paper.specs.Reading.{stopsAt, timesAt, tripAt, ridden, nextRoute};
 ghost use Rattle.feed.specs.Fields.{CanPut, CanPutRow, CountsSmall};
 ghost use Rattle.feed.specs.State.{tripsOf, TripRoom, RodeOn, routesOf, midStopped, RowRoom, RideRoom, RoutedOn, RoutesRoom, RoutesDone};
-use crate::fields::byte_at;
-use crate::fields::stands;
-use crate::fields::three_at;
-use crate::fields::two_at;
+use crate::standing::byte_at;
+use crate::standing::stands;
+use crate::standing::three_at;
+use fields::byte_in;
+use fields::two_in;
 
 // The walk through the trips of a route: the refusal's number or 0, the offset, and how many events the tables hold.
 pub struct Ride {
@@ -206,8 +207,8 @@ fn read_route(
     if !stands(f, e, s.at, 5, 82, 84) {
         return stop_at(s, 3);
     }
-    let n = byte_at(f, s.at + 2) as usize;
-    let m = two_at(f, s.at + 3) as usize;
+    let n = byte_in(f, s.at, 2) as usize;
+    let m = two_in(f, s.at, 3) as usize;
     if !counts_fit(n, m, s.trips, s.events) {
         return stop_at(s, 5);
     }

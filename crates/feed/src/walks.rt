@@ -9,9 +9,9 @@ ghost use Rattle.laws.specs.Fields.{byte, two};
 ghost use Rattle.paper.specs.Reading.{nextWalk};
 ghost use Rattle.feed.specs.Fields.{CanPut};
 ghost use Rattle.feed.specs.State.{walksOf, WalkRoom, WalkedOn};
-use crate::fields::byte_at;
-use crate::fields::stands;
-use crate::fields::two_at;
+use crate::standing::stands;
+use fields::byte_in;
+use fields::two_in;
 
 // The walk through the walks: the refusal's number or 0, the offset, and how much table 5 holds.
 pub struct Foot {
@@ -25,9 +25,9 @@ fn keep_walk(f: &[u8], at: usize, d: &mut [u32], k: usize)
     requires { ⌜ CanPut (now f) at 4 (now d) k 3 ⌝ }
     ensures { λ _. ⌜ now (d .exit) ≡ over (take k (now (d .entry)) ++ (byte (now (f .entry)) at ∷ byte (now (f .entry)) (at + 1) ∷ two (now (f .entry)) (at + 2) ∷ [])) (now (d .entry)) ⌝ }
 {
-    d[k] = byte_at(f, at);
-    d[k + 1] = byte_at(f, at + 1);
-    d[k + 2] = two_at(f, at + 2);
+    d[k] = byte_in(f, at, 0);
+    d[k + 1] = byte_in(f, at, 1);
+    d[k + 2] = two_in(f, at, 2);
 }
 
 fn read_walk(f: &[u8], e: usize, s: Foot, d: &mut [u32]) -> Foot

@@ -1,6 +1,6 @@
 -- `feed::body::fill` meets its contract: a bad walk, a broken rule, or done.
 use borrow.Author.Needs.{needs}
-use mathlib.Core.Path.{refl, sym, _∙_}
+use mathlib.Core.Path.{sym, _∙_}
 use native.Mathlib.Omega.{arith}
 use Rattle.feed.proofs.Judge.{judged-bad, counts-right, judged-fault, judged-done}
 use Rattle.feed.proofs.body.fill.Statement.{statement}
@@ -30,23 +30,20 @@ same-length-5 c = search needs
 returns : tie.Need-returns
 returns c = judged-bad (c .before .before .before .before .before .before .before .before .before .before .before .before .before .before .before .before .before .before .before .before .before .before .before .pre) (c .before .before .before .before .before .before .before .before .before .before .before .read-whole .ensures) (c .if1 .taken)
 
-shared-slice-read-t26 : tie.Need-shared-slice-read-t26
-shared-slice-read-t26 c = search needs
+byte-in-requires : tie.Need-byte-in-requires
+byte-in-requires c κs = search needs
 
-cast-t27 : tie.Need-cast-t27
-cast-t27 c = omega (arith, c .shared-slice-known2 .given 3)
+add-t26 : tie.Need-add-t26
+add-t26 c = search needs
 
-add-t28 : tie.Need-add-t28
-add-t28 c = omega (arith, c .shared-slice-known2 .given 3)
+byte-in-requires-2 : tie.Need-byte-in-requires-2
+byte-in-requires-2 c κs = search needs
 
-byte-at-requires : tie.Need-byte-at-requires
-byte-at-requires c κs = search needs
-
-two-at-requires : tie.Need-two-at-requires
-two-at-requires c κs = search needs
+two-in-requires : tie.Need-two-in-requires
+two-in-requires c κs = search needs
 
 whole-fault-requires : tie.Need-whole-fault-requires
-whole-fault-requires c κs = counts-right (c .before .before .before .before .before .before .before .before .before .before .before .before .before .before .before .before .before .before .before .before .before .before .before .before .before .before .before .before .before .before .before .pre) (c .before .before .before .before .before .before .before .before .before .before .before .before .before .before .before .before .before .before .before .read-whole .ensures) (λ i. omega (arith, c .before .before .before .before .before .before .before .before .before .before .before .before .before .before .before .before .before .before .before .before .before .before .before .before .before .before .before .before .before .before .shared-slice-known .given i)) (c .before .before .before .before .before .before .before .before .if1 .left) _ (c .before .before .before .before .before .before .byte-at .result) (c .before .before .before .before .before .two-at .result) refl (c .before .before .before .before .before .before .byte-at .ensures .is) (c .before .before .before .before .before .two-at .ensures .is)
+whole-fault-requires c κs = counts-right (c .before .before .before .before .before .before .before .before .before .before .before .before .before .before .before .before .before .before .before .before .before .before .before .before .before .before .before .before .before .before .before .pre) (c .before .before .before .before .before .before .before .before .before .before .before .before .before .before .before .before .before .before .before .read-whole .ensures) (λ i. omega (arith, c .before .before .before .before .before .before .before .before .before .before .before .before .before .before .before .before .before .before .before .before .before .before .before .before .before .before .before .before .before .before .shared-slice-known .given i)) (c .before .before .before .before .before .before .before .before .if1 .left) (c .before .before .before .before .before .before .before .byte-in .result) (c .before .before .before .before .before .before .byte-in2 .result) (c .before .before .before .before .before .two-in .result) (c .before .before .before .before .before .before .before .byte-in .ensures .is) (c .before .before .before .before .before .before .byte-in2 .ensures .is) (c .before .before .before .before .before .two-in .ensures .is)
 
 enum-known-number : tie.Need-enum-known-number
 enum-known-number c = search needs
@@ -67,7 +64,7 @@ same-length-10 : tie.Need-same-length-10
 same-length-10 c = search needs
 
 returns-2 : tie.Need-returns-2
-returns-2 c = judged-fault (c .before .before .before .before .before .before .before .before .before .before .before .before .before .before .before .before .before .before .before .before .before .before .before .before .before .before .before .before .before .before .before .before .before .before .before .pre) (c .before .before .before .before .before .before .before .before .before .before .before .before .before .before .before .before .before .before .before .before .before .before .before .read-whole .ensures) (λ i. omega (arith, c .before .before .before .before .before .before .before .before .before .before .before .before .before .before .before .before .before .before .before .before .before .before .before .before .before .before .before .before .before .before .before .before .before .before .shared-slice-known .given i)) (c .before .before .before .before .before .before .before .before .before .before .before .before .if1 .left) _ (c .before .before .before .before .before .before .before .before .before .before .byte-at .result) (c .before .before .before .before .before .before .before .before .before .two-at .result) refl (c .before .before .before .before .before .before .before .before .before .before .byte-at .ensures .is) (c .before .before .before .before .before .before .before .before .before .two-at .ensures .is) (sym (c .before .number .given .1) ∙ c .before .before .before .whole-fault .ensures)
+returns-2 c = judged-fault (c .before .before .before .before .before .before .before .before .before .before .before .before .before .before .before .before .before .before .before .before .before .before .before .before .before .before .before .before .before .before .before .before .before .before .before .pre) (c .before .before .before .before .before .before .before .before .before .before .before .before .before .before .before .before .before .before .before .before .before .before .before .read-whole .ensures) (λ i. omega (arith, c .before .before .before .before .before .before .before .before .before .before .before .before .before .before .before .before .before .before .before .before .before .before .before .before .before .before .before .before .before .before .before .before .before .before .shared-slice-known .given i)) (c .before .before .before .before .before .before .before .before .before .before .before .before .if1 .left) (c .before .before .before .before .before .before .before .before .before .before .before .byte-in .result) (c .before .before .before .before .before .before .before .before .before .before .byte-in2 .result) (c .before .before .before .before .before .before .before .before .before .two-in .result) (c .before .before .before .before .before .before .before .before .before .before .before .byte-in .ensures .is) (c .before .before .before .before .before .before .before .before .before .before .byte-in2 .ensures .is) (c .before .before .before .before .before .before .before .before .before .two-in .ensures .is) (sym (c .before .number .given .1) ∙ c .before .before .before .whole-fault .ensures)
 
 enum-told : tie.Need-enum-told
 enum-told c = search needs
@@ -88,7 +85,7 @@ same-length-15 : tie.Need-same-length-15
 same-length-15 c = search needs
 
 returns-3 : tie.Need-returns-3
-returns-3 c = judged-done (c .before .before .before .before .before .before .before .before .before .before .before .before .before .before .before .before .before .before .before .before .before .before .before .before .before .before .before .before .before .before .before .before .before .before .pre) (c .before .before .before .before .before .before .before .before .before .before .before .before .before .before .before .before .before .before .before .before .before .before .read-whole .ensures) (λ i. omega (arith, c .before .before .before .before .before .before .before .before .before .before .before .before .before .before .before .before .before .before .before .before .before .before .before .before .before .before .before .before .before .before .before .before .before .shared-slice-known .given i)) (c .before .before .before .before .before .before .before .before .before .before .before .if1 .left) _ (c .before .before .before .before .before .before .before .before .before .byte-at .result) (c .before .before .before .before .before .before .before .before .two-at .result) refl (c .before .before .before .before .before .before .before .before .before .byte-at .ensures .is) (c .before .before .before .before .before .before .before .before .two-at .ensures .is) (sym (c .enum-told .given .1) ∙ c .before .before .whole-fault .ensures)
+returns-3 c = judged-done (c .before .before .before .before .before .before .before .before .before .before .before .before .before .before .before .before .before .before .before .before .before .before .before .before .before .before .before .before .before .before .before .before .before .before .pre) (c .before .before .before .before .before .before .before .before .before .before .before .before .before .before .before .before .before .before .before .before .before .before .read-whole .ensures) (λ i. omega (arith, c .before .before .before .before .before .before .before .before .before .before .before .before .before .before .before .before .before .before .before .before .before .before .before .before .before .before .before .before .before .before .before .before .before .shared-slice-known .given i)) (c .before .before .before .before .before .before .before .before .before .before .before .if1 .left) (c .before .before .before .before .before .before .before .before .before .before .byte-in .result) (c .before .before .before .before .before .before .before .before .before .byte-in2 .result) (c .before .before .before .before .before .before .before .before .two-in .result) (c .before .before .before .before .before .before .before .before .before .before .byte-in .ensures .is) (c .before .before .before .before .before .before .before .before .before .byte-in2 .ensures .is) (c .before .before .before .before .before .before .before .before .two-in .ensures .is) (sym (c .enum-told .given .1) ∙ c .before .before .whole-fault .ensures)
 
 pub fill-spec : {M : Type 1} → statement M
 fill-spec =
@@ -102,11 +99,10 @@ fill-spec =
     same-length-4
     same-length-5
     returns
-    shared-slice-read-t26
-    cast-t27
-    add-t28
-    byte-at-requires
-    two-at-requires
+    byte-in-requires
+    add-t26
+    byte-in-requires-2
+    two-in-requires
     whole-fault-requires
     enum-known-number
     same-length-6

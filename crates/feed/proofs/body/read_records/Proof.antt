@@ -9,23 +9,23 @@ use Rattle.feed.proofs.body.read_records.Tie as tie
 sub-e : tie.Need-sub-e
 sub-e c = search needs
 
-byte-at-requires : tie.Need-byte-at-requires
-byte-at-requires c κs = search needs
+byte-in-requires : tie.Need-byte-in-requires
+byte-in-requires c κs = search needs
 
 cast-k : tie.Need-cast-k
 cast-k c = search needs
 
-two-at-requires : tie.Need-two-at-requires
-two-at-requires c κs = search needs
+two-in-requires : tie.Need-two-in-requires
+two-in-requires c κs = search needs
 
 cast-w : tie.Need-cast-w
 cast-w c = search needs
 
 read-routes-requires : tie.Need-read-routes-requires
-read-routes-requires c κs = routes-room (c .before .before .before .before .before .before .before .before .before .before .before .before .pre) (c .before .before .before .before .before .byte-at .ensures .is) (c .before .before .before .before .two-at .ensures .is)
+read-routes-requires c κs = routes-room (c .before .before .before .before .before .before .before .before .before .before .before .before .pre) (c .before .before .before .before .before .byte-in .ensures .is) (c .before .before .before .before .two-in .ensures .is)
 
 read-walks-requires : tie.Need-read-walks-requires
-read-walks-requires c κs = walks-room (c .before .before .before .before .before .before .before .before .before .before .before .before .before .before .before .before .before .before .before .before .before .before .pre) (c .before .before .before .before .before .before .before .before .before .before .before .before .before .before .before .byte-at .ensures .is) (c .before .before .before .before .before .before .before .before .before .before .before .before .before .before .two-at .ensures .is) (c .before .before .before .before .before .before .before .before .before .read-routes .ensures) refl
+read-walks-requires c κs = walks-room (c .before .before .before .before .before .before .before .before .before .before .before .before .before .before .before .before .before .before .before .before .before .before .pre) (c .before .before .before .before .before .before .before .before .before .before .before .before .before .before .before .byte-in .ensures .is) (c .before .before .before .before .before .before .before .before .before .before .before .before .before .before .two-in .ensures .is) (c .before .before .before .before .before .before .before .before .before .read-routes .ensures) refl
 
 same-length : tie.Need-same-length
 same-length c = search needs
@@ -43,7 +43,7 @@ same-length-5 : tie.Need-same-length-5
 same-length-5 c = search needs
 
 returns : tie.Need-returns
-returns c = ended-bad (c .before .before .before .before .before .before .before .before .before .before .before .before .before .before .before .before .before .before .before .before .before .before .before .before .before .before .pre) (c .before .before .before .before .before .before .before .before .before .before .before .before .before .before .before .before .before .before .before .byte-at .ensures .is) (c .before .before .before .before .before .before .before .before .before .before .before .before .before .before .before .before .before .before .two-at .ensures .is) (c .before .before .before .before .before .before .before .before .before .before .before .before .before .read-routes .ensures) (c .before .before .before .read-walks .ensures) (c .if1 .taken)
+returns c = ended-bad (c .before .before .before .before .before .before .before .before .before .before .before .before .before .before .before .before .before .before .before .before .before .before .before .before .before .before .pre) (c .before .before .before .before .before .before .before .before .before .before .before .before .before .before .before .before .before .before .before .byte-in .ensures .is) (c .before .before .before .before .before .before .before .before .before .before .before .before .before .before .before .before .before .before .two-in .ensures .is) (c .before .before .before .before .before .before .before .before .before .before .before .before .before .read-routes .ensures) (c .before .before .before .read-walks .ensures) (c .if1 .taken)
 
 ends-requires : tie.Need-ends-requires
 ends-requires c κs = record { at≤ = omega (arith, c .before .before .before .read-walks .ensures .within, c .before .before .before .before .before .before .before .before .before .before .before .before .before .before .before .before .before .before .before .before .before .before .before .before .before .before .pre .body .feed≤); feed≤ = c .before .before .before .before .before .before .before .before .before .before .before .before .before .before .before .before .before .before .before .before .before .before .before .before .before .before .pre .body .feed≤ }
@@ -64,7 +64,7 @@ same-length-10 : tie.Need-same-length-10
 same-length-10 c = search needs
 
 returns-2 : tie.Need-returns-2
-returns-2 c = ended-well (c .before .before .before .before .before .before .before .before .before .before .before .before .before .before .before .before .before .before .before .before .before .before .before .before .before .before .before .before .pre) (c .before .before .before .before .before .before .before .before .before .before .before .before .before .before .before .before .before .before .before .before .before .byte-at .ensures .is) (c .before .before .before .before .before .before .before .before .before .before .before .before .before .before .before .before .before .before .before .before .two-at .ensures .is) (c .before .before .before .before .before .before .before .before .before .before .before .before .before .before .before .read-routes .ensures) (c .before .before .before .before .before .read-walks .ensures) (c .before .before .if1 .left) (c .before .ends .ensures) (c .if2 .taken)
+returns-2 c = ended-well (c .before .before .before .before .before .before .before .before .before .before .before .before .before .before .before .before .before .before .before .before .before .before .before .before .before .before .before .before .pre) (c .before .before .before .before .before .before .before .before .before .before .before .before .before .before .before .before .before .before .before .before .before .byte-in .ensures .is) (c .before .before .before .before .before .before .before .before .before .before .before .before .before .before .before .before .before .before .before .before .two-in .ensures .is) (c .before .before .before .before .before .before .before .before .before .before .before .before .before .before .before .read-routes .ensures) (c .before .before .before .before .before .read-walks .ensures) (c .before .before .if1 .left) (c .before .ends .ensures) (c .if2 .taken)
 
 same-length-11 : tie.Need-same-length-11
 same-length-11 c = search needs
@@ -82,16 +82,16 @@ same-length-15 : tie.Need-same-length-15
 same-length-15 c = search needs
 
 returns-3 : tie.Need-returns-3
-returns-3 c = ended-not (c .before .before .before .before .before .before .before .before .before .before .before .before .before .before .before .before .before .before .before .before .before .before .before .before .before .before .before .before .pre) (c .before .before .before .before .before .before .before .before .before .before .before .before .before .before .before .before .before .before .before .before .before .byte-at .ensures .is) (c .before .before .before .before .before .before .before .before .before .before .before .before .before .before .before .before .before .before .before .before .two-at .ensures .is) (c .before .before .before .before .before .before .before .before .before .before .before .before .before .before .before .read-routes .ensures) (c .before .before .before .before .before .read-walks .ensures) (c .before .before .if1 .left) (c .before .ends .ensures) (c .if2 .left)
+returns-3 c = ended-not (c .before .before .before .before .before .before .before .before .before .before .before .before .before .before .before .before .before .before .before .before .before .before .before .before .before .before .before .before .pre) (c .before .before .before .before .before .before .before .before .before .before .before .before .before .before .before .before .before .before .before .before .before .byte-in .ensures .is) (c .before .before .before .before .before .before .before .before .before .before .before .before .before .before .before .before .before .before .before .before .two-in .ensures .is) (c .before .before .before .before .before .before .before .before .before .before .before .before .before .before .before .read-routes .ensures) (c .before .before .before .before .before .read-walks .ensures) (c .before .before .if1 .left) (c .before .ends .ensures) (c .if2 .left)
 
 pub read-records-spec : {M : Type 1} → statement M
 read-records-spec =
     tie.close
     (tie.spec
     sub-e
-    byte-at-requires
+    byte-in-requires
     cast-k
-    two-at-requires
+    two-in-requires
     cast-w
     read-routes-requires
     read-walks-requires

@@ -1,7 +1,7 @@
 -- `feed::routes::read_route` meets its contract: the cases of `nextRoute`.
 use borrow.Author.Needs.{needs}
 use native.Mathlib.Omega.{arith}
-use Rattle.feed.proofs.Held.{fell, stood, stands-by}
+use Rattle.feed.proofs.Held.{fell, stood}
 use Rattle.feed.proofs.Route.{routed-idle, routed-unmarked, routed-miscounted, routed-long, routed-good}
 use Rattle.feed.proofs.routes.read_route.Statement.{statement}
 use Rattle.feed.proofs.routes.read_route.Tie as tie
@@ -18,22 +18,14 @@ stop-at-requires c κs = search needs
 returns-2 : tie.Need-returns-2
 returns-2 c = rw (c .stop-at .ensures) (routed-unmarked (c .before .before .before .before .before .before .before .before .before .before .pre) (c .before .before .before .if1 .left) (fell (c .before .before .stands .ensures) (c .before .if2 .taken)))
 
-add-byte-at : tie.Need-add-byte-at
-add-byte-at c = search needs
-
-byte-at-requires : tie.Need-byte-at-requires
-byte-at-requires c κs = search needs
+byte-in-requires : tie.Need-byte-in-requires
+byte-in-requires c κs = search needs
 
 cast-n : tie.Need-cast-n
 cast-n c = search needs
 
-add-two-at : tie.Need-add-two-at
-add-two-at c = search needs
-
-two-at-requires : tie.Need-two-at-requires
-two-at-requires c κs =
-    let h = stands-by (c .before .before .before .before .before .before .before .before .before .before .before .before .args .f .now) (c .before .before .before .before .before .before .before .before .before .before .before .before .args .e) (c .before .before .before .before .before .before .before .before .before .before .before .before .args .s .at) 5 82 84 (c .before .before .before .before .stands .ensures) (c .before .before .before .if2 .left) in
-    omega (arith, c .before .before .before .before .before .before .before .before .before .before .before .before .pre .room)
+two-in-requires : tie.Need-two-in-requires
+two-in-requires c κs = search needs
 
 cast-m : tie.Need-cast-m
 cast-m c = search needs
@@ -45,22 +37,22 @@ stop-at-requires-2 : tie.Need-stop-at-requires-2
 stop-at-requires-2 c κs = search needs
 
 returns-3 : tie.Need-returns-3
-returns-3 c = rw (c .stop-at2 .ensures) (routed-miscounted (c .before .before .before .before .before .before .before .before .before .before .before .before .before .before .before .before .pre) (c .before .before .before .before .before .before .before .before .before .if1 .left) (stood (c .before .before .before .before .before .before .before .before .stands .ensures) (c .before .before .before .before .before .before .before .if2 .left)) (c .before .before .before .before .before .byte-at .ensures .is) (c .before .before .before .two-at .ensures .is) (fell (c .before .before .counts-fit .ensures) (c .before .if3 .taken)))
+returns-3 c = rw (c .stop-at2 .ensures) (routed-miscounted (c .before .before .before .before .before .before .before .before .before .before .before .before .before .before .pre) (c .before .before .before .before .before .before .before .if1 .left) (stood (c .before .before .before .before .before .before .stands .ensures) (c .before .before .before .before .before .if2 .left)) (c .before .before .before .before .byte-in .ensures .is) (c .before .before .before .two-in .ensures .is) (fell (c .before .before .counts-fit .ensures) (c .before .if3 .taken)))
 
 add-if4 : tie.Need-add-if4
-add-if4 c = omega (arith, c .before .before .before .before .before .before .before .before .before .before .before .before .before .before .before .before .pre .room)
+add-if4 c = omega (arith, c .before .before .before .before .before .before .before .before .before .before .before .before .before .before .pre .room)
 
 add-if4-2 : tie.Need-add-if4-2
-add-if4-2 c = omega (arith, c .before .before .before .before .before .before .before .before .before .before .before .before .before .before .before .before .pre .room, c .before .before .before .before .before .byte-at .ensures)
+add-if4-2 c = omega (arith, c .before .before .before .before .before .before .before .before .before .before .before .before .before .before .pre .room, c .before .before .before .before .byte-in .ensures)
 
 stop-at-requires-3 : tie.Need-stop-at-requires-3
 stop-at-requires-3 c κs = search needs
 
 returns-4 : tie.Need-returns-4
-returns-4 c = rw (c .stop-at3 .ensures) (routed-long (c .before .before .before .before .before .before .before .before .before .before .before .before .before .before .before .before .before .before .pre) (c .before .before .before .before .before .before .before .before .before .before .before .if1 .left) (stood (c .before .before .before .before .before .before .before .before .before .before .stands .ensures) (c .before .before .before .before .before .before .before .before .before .if2 .left)) (c .before .before .before .before .before .before .before .byte-at .ensures .is) (c .before .before .before .before .before .two-at .ensures .is) (stood (c .before .before .before .before .counts-fit .ensures) (c .before .before .before .if3 .left)) (c .before .if4 .taken))
+returns-4 c = rw (c .stop-at3 .ensures) (routed-long (c .before .before .before .before .before .before .before .before .before .before .before .before .before .before .before .before .pre) (c .before .before .before .before .before .before .before .before .before .if1 .left) (stood (c .before .before .before .before .before .before .before .before .stands .ensures) (c .before .before .before .before .before .before .before .if2 .left)) (c .before .before .before .before .before .before .byte-in .ensures .is) (c .before .before .before .before .before .two-in .ensures .is) (stood (c .before .before .before .before .counts-fit .ensures) (c .before .before .before .if3 .left)) (c .before .if4 .taken))
 
 ride-route-requires : tie.Need-ride-route-requires
-ride-route-requires c κs = record { rows = c .before .before .before .before .before .before .before .before .before .before .before .before .before .before .before .before .before .before .before .before .before .pre; well = c .before .before .before .before .before .before .before .before .before .before .before .before .before .before .if1 .left; counts = (stood (c .before .before .before .before .before .before .before .counts-fit .ensures) (c .before .before .before .before .before .before .if3 .left)); fits = c .before .before .before .before .if4 .left }
+ride-route-requires c κs = record { rows = c .before .before .before .before .before .before .before .before .before .before .before .before .before .before .before .before .before .before .before .pre; well = c .before .before .before .before .before .before .before .before .before .before .before .before .if1 .left; counts = (stood (c .before .before .before .before .before .before .before .counts-fit .ensures) (c .before .before .before .before .before .before .if3 .left)); fits = c .before .before .before .before .if4 .left }
 
 same-length : tie.Need-same-length
 same-length c = search needs
@@ -75,7 +67,7 @@ same-length-4 : tie.Need-same-length-4
 same-length-4 c = search needs
 
 returns-5 : tie.Need-returns-5
-returns-5 c = routed-good (c .before .before .before .before .before .before .before .before .before .before .before .before .before .before .before .before .before .before .before .before .before .before .before .before .before .before .before .before .before .before .pre) (c .before .before .before .before .before .before .before .before .before .before .before .before .before .before .before .before .before .before .before .before .before .before .before .if1 .left) (stood (c .before .before .before .before .before .before .before .before .before .before .before .before .before .before .before .before .before .before .before .before .before .before .stands .ensures) (c .before .before .before .before .before .before .before .before .before .before .before .before .before .before .before .before .before .before .before .before .before .if2 .left)) (c .before .before .before .before .before .before .before .before .before .before .before .before .before .before .before .before .before .before .before .byte-at .ensures .is) (c .before .before .before .before .before .before .before .before .before .before .before .before .before .before .before .before .before .two-at .ensures .is) (stood (c .before .before .before .before .before .before .before .before .before .before .before .before .before .before .before .before .counts-fit .ensures) (c .before .before .before .before .before .before .before .before .before .before .before .before .before .before .before .if3 .left)) (c .before .before .before .before .before .before .before .before .before .before .before .before .before .if4 .left) (c .before .before .before .before .before .before .before .before .ride-route .ensures)
+returns-5 c = routed-good (c .before .before .before .before .before .before .before .before .before .before .before .before .before .before .before .before .before .before .before .before .before .before .before .before .before .before .before .before .pre) (c .before .before .before .before .before .before .before .before .before .before .before .before .before .before .before .before .before .before .before .before .before .if1 .left) (stood (c .before .before .before .before .before .before .before .before .before .before .before .before .before .before .before .before .before .before .before .before .stands .ensures) (c .before .before .before .before .before .before .before .before .before .before .before .before .before .before .before .before .before .before .before .if2 .left)) (c .before .before .before .before .before .before .before .before .before .before .before .before .before .before .before .before .before .before .byte-in .ensures .is) (c .before .before .before .before .before .before .before .before .before .before .before .before .before .before .before .before .before .two-in .ensures .is) (stood (c .before .before .before .before .before .before .before .before .before .before .before .before .before .before .before .before .counts-fit .ensures) (c .before .before .before .before .before .before .before .before .before .before .before .before .before .before .before .if3 .left)) (c .before .before .before .before .before .before .before .before .before .before .before .before .before .if4 .left) (c .before .before .before .before .before .before .before .before .ride-route .ensures)
 
 pub read-route-spec : {M : Type 1} → statement M
 read-route-spec =
@@ -85,11 +77,9 @@ read-route-spec =
     stands-requires
     stop-at-requires
     returns-2
-    add-byte-at
-    byte-at-requires
+    byte-in-requires
     cast-n
-    add-two-at
-    two-at-requires
+    two-in-requires
     cast-m
     counts-fit-requires
     stop-at-requires-2

@@ -1,23 +1,18 @@
-// A feed's fields, high byte first, and its marks.
+// Whether a record stands at an offset; and the bytes and times in one. The loops over these know that they stand, so no test is made again for each.
 ghost use mathlib.Core.Path.{_≡_};
 ghost use Prim.Native.Nat.{_+_, _<_};
 ghost use lib.ListN.{length};
-ghost use Rattle.laws.specs.Fields.{byte, two, three};
+ghost use Rattle.laws.specs.Fields.{byte, three};
 ghost use Rattle.paper.specs.Reading.{marked};
-ghost use Rattle.feed.specs.Fields.{Field, Near};
+ghost use Rattle.fields.specs.Field.{Field};
+ghost use Rattle.feed.specs.Fields.{Near};
+use fields::begins_in;
 
 pub fn byte_at(f: &[u8], i: usize) -> u32
     requires { ⌜ i < length (now f) ⌝ }
     ensures { λ r. ⌜ Field (byte (now (f .entry)) i) 256 r ⌝ }
 {
     f[i] as u32
-}
-
-pub fn two_at(f: &[u8], i: usize) -> u32
-    requires { ⌜ i + 1 < length (now f) ⌝ }
-    ensures { λ r. ⌜ Field (two (now (f .entry)) i) 65536 r ⌝ }
-{
-    byte_at(f, i) * 256 + byte_at(f, i + 1)
 }
 
 pub fn three_at(f: &[u8], i: usize) -> u32
@@ -35,8 +30,5 @@ pub fn stands(f: &[u8], e: usize, at: usize, k: usize, p: u8, q: u8) -> bool
     if e < at + k {
         return false;
     }
-    if f[at] == p {
-        return f[at + 1] == q;
-    }
-    false
+    begins_in(f, at, p as usize * 256 + q as usize)
 }

@@ -1,9 +1,9 @@
--- `feed::fields::byte_at` meets its contract: a byte is below 256.
+-- `feed::standing::byte_at` meets its contract: a byte is below 256.
 use borrow.Author.Needs.{needs}
 use mathlib.Core.Path.{refl}
 use native.Mathlib.Omega.{arith}
-use Rattle.feed.proofs.fields.byte_at.Statement.{statement}
-use Rattle.feed.proofs.fields.byte_at.Tie as tie
+use Rattle.feed.proofs.standing.byte_at.Statement.{statement}
+use Rattle.feed.proofs.standing.byte_at.Tie as tie
 
 shared-slice-read-result : tie.Need-shared-slice-read-result
 shared-slice-read-result c = search needs
