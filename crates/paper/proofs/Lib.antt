@@ -37,3 +37,5 @@ pub mod Demand1
 pub mod Demands
 pub mod Lines
 pub mod Printed
+pub mod Printing
+pub mod Front

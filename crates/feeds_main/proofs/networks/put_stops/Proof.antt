@@ -1,0 +1,56 @@
+-- `feeds_main::networks::put_stops` meets its contract: the table keeps its length.
+use mathlib.Core.Path.{_≡_}
+use Prim.Native.Nat.{_-_}
+use lib.ListN.{length}
+use borrow.Author.Needs.{needs}
+use Rattle.feeds_main.proofs.networks.put_stops.Statement.{statement}
+use Rattle.feeds_main.proofs.networks.put_stops.Tie as tie
+
+abbrev Inv-loop : tie.InvT-loop
+Inv-loop positions₀ count stops seed s₀ i₀ positions s i = length positions ≡ length positions₀
+
+abbrev μ-loop : tie.MeasureT-loop
+μ-loop positions₀ count stops seed s₀ i₀ positions s i = count - i
+
+loop-holds : tie.Need-loop-holds Inv-loop μ-loop
+loop-holds c = search needs
+
+next-requires : tie.Need-next-requires Inv-loop μ-loop
+next-requires c κs = search needs
+
+drawn-requires : tie.Need-drawn-requires Inv-loop μ-loop
+drawn-requires c κs = search needs
+
+put-requires : tie.Need-put-requires Inv-loop μ-loop
+put-requires c κs = search needs
+
+add-i : tie.Need-add-i Inv-loop μ-loop
+add-i c = search needs
+
+loop-less : tie.Need-loop-less Inv-loop μ-loop
+loop-less c = search needs
+
+loop-again : tie.Need-loop-again Inv-loop μ-loop
+loop-again c = search needs
+
+same-length : tie.Need-same-length Inv-loop μ-loop
+same-length c = search needs
+
+returns : tie.Need-returns Inv-loop μ-loop
+returns c = search needs
+
+pub put-stops-spec : {M : Type 1} → statement M
+put-stops-spec =
+    tie.close
+    (tie.spec
+    Inv-loop
+    μ-loop
+    loop-holds
+    next-requires
+    drawn-requires
+    put-requires
+    add-i
+    loop-less
+    loop-again
+    same-length
+    returns)
