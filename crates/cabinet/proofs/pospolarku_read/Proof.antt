@@ -1,0 +1,42 @@
+-- `cabinet::pospolarku_read` meets its contract, from that of `feed::read`.
+use Rattle.cabinet.proofs.Answers.{reads}
+use borrow.Author.Needs.{needs}
+use Rattle.cabinet.proofs.pospolarku_read.Statement.{statement}
+use Rattle.cabinet.proofs.pospolarku_read.Tie as tie
+
+read-requires : tie.Need-read-requires
+read-requires c κs = search needs
+
+reading-number-requires : tie.Need-reading-number-requires
+reading-number-requires c κs = search needs
+
+same-length : tie.Need-same-length
+same-length c = search needs
+
+same-length-2 : tie.Need-same-length-2
+same-length-2 c = search needs
+
+same-length-3 : tie.Need-same-length-3
+same-length-3 c = search needs
+
+same-length-4 : tie.Need-same-length-4
+same-length-4 c = search needs
+
+same-length-5 : tie.Need-same-length-5
+same-length-5 c = search needs
+
+returns : tie.Need-returns
+returns c = reads (c .before .before .before .before .before .before .before .before .before .before .before .read .ensures) (c .reading-number .ensures)
+
+pub pospolarku-read-spec : {M : Type 1} → statement M
+pospolarku-read-spec =
+    tie.close
+    (tie.spec
+    read-requires
+    reading-number-requires
+    same-length
+    same-length-2
+    same-length-3
+    same-length-4
+    same-length-5
+    returns)

@@ -1,0 +1,2 @@
+-- What the cabinet's functions promise.
+pub mod Packed

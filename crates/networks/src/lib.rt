@@ -1,0 +1,4 @@
+// Small networks and questions of them, the same in every run, for trials of the planner.
+pub mod dice;
+pub mod network;
+pub mod questions;
