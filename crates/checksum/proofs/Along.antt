@@ -1,30 +1,48 @@
 -- The sum's loop: what is summed so far, and then the bytes left, make the whole sum.
-use mathlib.Core.Path.{_≡_, refl}
-use mathlib.Core.List.{List}
-use Prim.Native.Nat.{ℕ, _+_, _≤_, _<_}
-use native.Mathlib.Numerals.{add-one}
+use mathlib.Core.Path.{_≡_, refl, sym, _∙_}
+use mathlib.Core.List.{List, [], _∷_}
+use Prim.Native.Nat.{ℕ, zero, suc, _+_, _-_, _≤_}
 use native.Mathlib.Omega.{arith}
-use lib.ListN.{length, getD, drop, drop-of-length-le}
-use lib.Seq.{drop-cons}
+use lib.ListN.{length, take, drop, length-take, length-drop}
+use lib.Seq.{drop-drop, take-all}
 use lib.Dec.{lit<}
 use Rattle.paper.specs.Feed.{fletcherStep, fletcherFrom, fletcherOf, zeroSum}
 use Rattle.paper.specs.declared.Sum.{Sum}
 use Rattle.checksum.specs.Small.{Small, Is}
+use Rattle.checksum.specs.Raw.{Block}
 
-pub record Along (bytes : List ℕ) (s : Sum) (i : ℕ) : Type 0 where
-  pub within : i ≤ length bytes
+pub record Along (bytes : List ℕ) (s : Sum) (at : ℕ) : Type 0 where
+  pub within : at ≤ length bytes
   pub small : Small s
-  pub left : fletcherFrom s (drop i bytes) ≡ fletcherOf bytes
+  pub left : fletcherFrom s (drop at bytes) ≡ fletcherOf bytes
+
+-- a block, and then what follows it
+in-two : (n : ℕ) (bytes : List ℕ) (s : Sum) → fletcherFrom (fletcherFrom s (take n bytes)) (drop n bytes) ≡ fletcherFrom s bytes
+unfolding fletcherFrom
+in-two zero bytes s = refl
+in-two (suc n) [] s = refl
+in-two (suc n) (b ∷ bs) s = in-two n bs (fletcherStep s b)
 
 pub along-start : (bytes : List ℕ) → Along bytes zeroSum 0
 unfolding fletcherOf
 along-start bytes = record { within = omega arith; small = record { first< = lit< tt; second< = lit< tt }; left = refl }
 
-pub along-step : (bytes : List ℕ) {s r : Sum} {i : ℕ} → Along bytes s i → i < length bytes → Is (fletcherStep s (getD bytes i 0)) r → Along bytes r (i + 1)
-unfolding fletcherFrom
-along-step bytes {s} {r} {i} h l e =
-    record { within = omega arith; small = e .small; left = rw (e .is, add-one) (rw (drop-cons bytes i 0 l) at (h .left)) }
+some-block : (bytes : List ℕ) {s : Sum} {at : ℕ} (n : ℕ) → Along bytes s at → n ≤ 4096 → Block s (take n (drop at bytes))
+some-block bytes {s} {at} n h l = record { small = h .small; short = omega (arith, length-take n (drop at bytes)) }
 
-pub along-end : (bytes : List ℕ) {s : Sum} {i : ℕ} → Along bytes s i → length bytes ≤ i → Is (fletcherOf bytes) s
-unfolding fletcherFrom
-along-end bytes h l = record { is = rw (drop-of-length-le bytes l) at (h .left); small = h .small }
+pub along-block : (bytes : List ℕ) {s : Sum} {at : ℕ} → Along bytes s at → Block s (take (at + 4096 - at) (drop at bytes))
+along-block bytes {s} {at} h = some-block bytes (at + 4096 - at) h (omega arith)
+
+pub along-step : (bytes : List ℕ) {s r : Sum} {at : ℕ} → Along bytes s at → at + 4096 ≤ length bytes → Is (fletcherFrom s (take (at + 4096 - at) (drop at bytes))) r → Along bytes r (at + 4096)
+along-step bytes {s} {r} {at} h l e =
+    let k : at + 4096 - at ≡ 4096 = omega arith in
+    let t : r ≡ fletcherFrom s (take 4096 (drop at bytes)) = rw k at (e .is) in
+    record { within = l; small = e .small; left = rw (t, sym (drop-drop 4096 at bytes)) (in-two 4096 (drop at bytes) s ∙ h .left) }
+
+pub along-last : (bytes : List ℕ) {s : Sum} {at : ℕ} → Along bytes s at → length bytes - at ≤ 4096 → Block s (take (length bytes - at) (drop at bytes))
+along-last bytes {s} {at} h l = some-block bytes (length bytes - at) h l
+
+pub along-end : (bytes : List ℕ) {s r : Sum} {at : ℕ} → Along bytes s at → Is (fletcherFrom s (take (length bytes - at) (drop at bytes))) r → Is (fletcherOf bytes) r
+along-end bytes {s} {r} {at} h e =
+    let t : take (length bytes - at) (drop at bytes) ≡ drop at bytes = take-all (length bytes - at) (drop at bytes) (omega (arith, length-drop at bytes)) in
+    record { is = rw t at (e .is) ∙ h .left; small = e .small }

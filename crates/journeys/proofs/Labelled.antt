@@ -12,16 +12,17 @@ use Rattle.laws.proofs.Lists.{getD-over, length-part, getD-part}
 use Rattle.laws.proofs.Checking.{or-none}
 use Rattle.paper.specs.Timetable.{Tables, nOf, routeOf}
 use Rattle.paper.specs.Journey.{Step, ride, rideWalk}
-use Rattle.paper.specs.Rows.{label, rowOf}
+use Rattle.paper.specs.Rows.{label, nextRow, rowOf}
 use Rattle.paper.specs.Tie.{firstStep, boardStop, legOf, legsOf}
 use Rattle.paper.specs.Reply.{questionBroken, labelsTable, legNumbers}
 use Rattle.paper.specs.declared.Leg.{Leg}
 use Rattle.paper.specs.declared.Question.{Question}
 use Rattle.paper.proofs.Usable.{Usable, usable-of, Asked}
 use Rattle.paper.proofs.Answers.{length-labels, labels-at, length-numbers}
+use Rattle.paper.proofs.Steps.{label-next, label-rides}
 use Rattle.paper.proofs.Earliest.{length-row, row-in, row-mark}
 use Rattle.paper.proofs.Legs.{Gained, legs-step, legs-length, read-back}
-use Rattle.journeys.specs.ReadBack.{rowIn, stepIn, legsIn, Leads, here, back, Readable}
+use Rattle.journeys.specs.ReadBack.{rowIn, stepIn, RidesAfter, legsIn, Leads, here, back, Readable}
 use Rattle.journeys.proofs.Leaves.{label-read}
 use Rattle.journeys.proofs.Tracing.{legs-in-step}
 
@@ -81,6 +82,16 @@ module _ (T : Tables) (q : Question) (labels : List ℕ) {room : ℕ} (ok : Read
   step-same k p lk lp =
       let z : k * 256 + 256 + p ≡ suc k * 256 + p = omega arith in
       ap₂ (λ (row : List ℕ) (v : ℕ). firstStep T row p v) (row-at k (omega arith)) (ap (λ (n : ℕ). getD labels n 0) z ∙ label-at (suc k) p lk lp)
+
+  -- row k + 1 counts each ride that row k permits
+  pub rides-after : (k : ℕ) → suc k ≤ q .limit → RidesAfter T labels k
+  unfolding rowOf
+  rides-after k lk s ls =
+      let z : k * 256 + 256 + s ≡ suc k * 256 + s = omega arith in
+      let e : getD labels (k * 256 + 256 + s) 0 ≡ label (nextRow T (rowOf T q k)) s = ap (λ (n : ℕ). getD labels n 0) z ∙ label-at (suc k) s lk ls in
+      let a = label-next T (rowOf T q k) s ls in
+      let b = label-rides T (rowOf T q k) s ls in
+      rw (row-at k (omega arith)) (omega arith)
 
   -- ---- the legs
 

@@ -2,16 +2,18 @@
 use mathlib.Core.Path.{_≡_, refl, sym, ap, _∙_}
 use mathlib.Core.Bool.{Bool, false, cond}
 use mathlib.Core.List.{List}
-use Prim.Native.Nat.{ℕ, zero, suc, _+_, _-_, _<_}
+use Prim.Native.Nat.{ℕ, zero, suc, _+_, _-_, _≤_, _<_}
 use native.Mathlib.Numerals.{sub-one}
-use borrow.Author.Tests.{eq-eqb, ne-eqb}
-use lib.Dec.{eqb, leb}
+use native.Mathlib.Omega.{arith}
+use borrow.Author.Tests.{eq-eqb, ne-eqb, lt-ltb, le-ltb}
+use lib.Dec.{eqb, leb, ltb}
 use lib.ListN.{length, getD}
 use Rattle.laws.specs.Below.{mark}
 use Rattle.laws.proofs.Runs.{getD-default}
 use Rattle.paper.specs.Rows.{label}
 use Rattle.paper.specs.declared.After.the-variants.{Stays, WalksTo}
 use Rattle.journeys.specs.declared.Extent.{Extent}
+use Rattle.journeys.specs.declared.Way.{Way}
 use Rattle.journeys.specs.declared.Way.the-variants.{Open, Shut}
 use Rattle.journeys.specs.Search.{stopIn, timeIn, endsIn, Boarding, boardsIn, wayOf, onFoot}
 
@@ -37,18 +39,42 @@ module _ (t2 t3 : List ℕ) (x : Extent) (j l s seconds v : ℕ) where
   unfolding endsIn
   ends-elsewhere h = rw (ne-eqb (stopIn t2 x l) s h)
 
-module _ (seconds : List ℕ) (p : ℕ) where
-  pub way-stays : (way : ℕ) → way ≡ 0 → Open p 0 Stays ≡ wayOf seconds p way
+module _ (seconds next : List ℕ) (p v : ℕ) where
+  pub way-stays : (way : ℕ) → way ≡ 0 → Open p 0 Stays ≡ wayOf seconds next p v way
   unfolding wayOf
   way-stays way e = rw e
 
-  way-walks : (way : ℕ) → (way ≡ 0 → ⊥) → wayOf seconds p way ≡ onFoot p (way - 1) (getD seconds (way - 1) 0)
-  unfolding wayOf
-  way-walks zero h = absurd (h refl)
-  way-walks (suc s) h = simp sub-one
+  module _ (way : ℕ) (h : way ≡ 0 → ⊥) where
+    abbrev takes : ℕ
+    takes = getD seconds (way - 1) 0
 
-  pub way-shut : (way : ℕ) → (way ≡ 0 → ⊥) → getD seconds (way - 1) 0 ≡ 0 → Shut ≡ wayOf seconds p way
-  way-shut way h e = sym (way-walks way h ∙ ap (λ (b : Bool). cond b Shut (Open (way - 1) (getD seconds (way - 1) 0) (WalksTo p))) (eq-eqb _ _ e))
+    way-walks : wayOf seconds next p v way ≡ onFoot next p v (way - 1) takes
+    unfolding wayOf
+    way-walks = go way h
+      where
+        go : (w : ℕ) → (w ≡ 0 → ⊥) → wayOf seconds next p v w ≡ onFoot next p v (w - 1) (getD seconds (w - 1) 0)
+        go zero z = absurd (z refl)
+        go (suc s) z = simp sub-one
 
-  pub way-open : (way : ℕ) → (way ≡ 0 → ⊥) → (getD seconds (way - 1) 0 ≡ 0 → ⊥) → Open (way - 1) (getD seconds (way - 1) 0) (WalksTo p) ≡ wayOf seconds p way
-  way-open way h n = sym (way-walks way h ∙ ap (λ (b : Bool). cond b Shut (Open (way - 1) (getD seconds (way - 1) 0) (WalksTo p))) (ne-eqb _ _ n))
+    abbrev in-time : Way
+    in-time = cond (ltb v (getD next (way - 1) 0 + takes)) Shut (Open (way - 1) takes (WalksTo p))
+
+    pub way-shut : takes ≡ 0 → Shut ≡ wayOf seconds next p v way
+    way-shut e = sym (way-walks ∙ ap (λ (b : Bool). cond b Shut in-time) (eq-eqb _ _ e))
+
+    module _ (some-walk : takes ≡ 0 → ⊥) where
+      walk-there : wayOf seconds next p v way ≡ in-time
+      walk-there = way-walks ∙ ap (λ (b : Bool). cond b Shut in-time) (ne-eqb _ _ some-walk)
+
+      late : v < getD next (way - 1) 0 + takes → Shut ≡ wayOf seconds next p v way
+      late l = sym (walk-there ∙ ap (λ (b : Bool). cond b Shut (Open (way - 1) takes (WalksTo p))) (lt-ltb _ _ l))
+
+      -- it takes longer than v, or has to begin before the next row's label
+      pub way-long : v < takes → Shut ≡ wayOf seconds next p v way
+      way-long l = late (omega arith)
+
+      pub way-late : takes ≤ v → v - takes < getD next (way - 1) 0 → Shut ≡ wayOf seconds next p v way
+      way-late h l = late (omega arith)
+
+      pub way-open : takes ≤ v → getD next (way - 1) 0 ≤ v - takes → Open (way - 1) takes (WalksTo p) ≡ wayOf seconds next p v way
+      way-open h l = sym (walk-there ∙ ap (λ (b : Bool). cond b Shut (Open (way - 1) takes (WalksTo p))) (le-ltb v (getD next (way - 1) 0 + takes) (omega arith)))

@@ -26,7 +26,7 @@ use Rattle.paper.proofs.Answers.{length-legs}
 use Rattle.paper.proofs.Entries.{entry-gained}
 use Rattle.journeys.specs.ReadBack.{legsIn, Traceable, Readable, ReadBack}
 use Rattle.laws.proofs.Runs.{mark-is, over-sets-piece, sets-marks, and-none}
-use Rattle.journeys.proofs.Labelled.{good-of, labels-room, label-at, leads-of, legs-same, legs-fit}
+use Rattle.journeys.proofs.Labelled.{good-of, labels-room, label-at, rides-after, leads-of, legs-same, legs-fit}
 
 -- ---- the entries
 
@@ -218,6 +218,7 @@ module _ {T : Tables} {q : Question} {labels legs₀ legs : List ℕ} {entries :
         labels-room = labels-room T q labels (f .ok);
         legs-room = omega (arith, ap length (f .legs-are) ∙ length-append (legsBelow T q k) _, length-below T q k);
         few = listing-few;
+        rides = λ j lj. rides-after T q labels (f .ok) j (omega arith);
         leads = leads-of T q labels (f .ok) k (q .target) l (entry-gained T q k is-entry);
       }
 

@@ -14,10 +14,25 @@ use Rattle.paper.specs.declared.Leg.{Leg}
 use Rattle.paper.proofs.Usable.{stop-is}
 use Rattle.journeys.specs.declared.Found.{Found}
 use Rattle.journeys.specs.declared.Found.the-variants.{Step, Nothing}
-use Rattle.journeys.specs.Search.{foundOf}
-use Rattle.journeys.specs.ReadBack.{stepIn, Stepping, Placed, placedStop, legsIn, Leads, here, back, Traceable}
+use Rattle.journeys.specs.Search.{foundOf, Searched}
+use Rattle.journeys.specs.ReadBack.{rowIn, stepIn, Stepping, Placed, placedStop, legsIn, Leads, here, back, Traceable}
 use Rattle.journeys.proofs.Stand.{head-in, positions-in}
+use Rattle.laws.specs.Lists.{part}
+use Rattle.laws.proofs.Lists.{length-part, getD-part}
 use Rattle.laws.proofs.Runs.{sets-front}
+
+-- the rows k and k + 1 are those that the search asks for
+pub stepping-searched : {T : Tables} {labels : List ℕ} {k p : ℕ} → Stepping T labels k p → Searched T (rowIn labels k (T .stops)) (part (k * 256 + 256) (k * 256 + T .stops + 256) labels)
+stepping-searched {T} {labels} {k} ok =
+    let few = ok .few in
+    let a = length-part labels (k * 256) (k * 256 + T .stops) (omega (arith, ok .room, ok .fit .sound .stops≤)) in
+    let b = length-part labels (k * 256 + 256) (k * 256 + T .stops + 256) (omega (arith, ok .room, ok .fit .sound .stops≤)) in
+    record {
+      fit = ok .fit;
+      labelled = omega arith;
+      next-labelled = omega arith;
+      next-first = λ s l. let h = ok .rides s l in let e = getD-part labels (k * 256 + 256) (k * 256 + T .stops + 256) s 0 (omega arith) in omega arith;
+    }
 
 -- the step that is found, and where it leads
 record Back (T : Tables) (labels : List ℕ) (k p : ℕ) : Type 0 where
@@ -74,6 +89,7 @@ module _ {T : Tables} {labels : List ℕ} {k target : ℕ} {legs₀ legs : List 
       room = t .ok .labels-room;
       few = let a = t .few in omega (arith, t .ok .few);
       stop = found-back .stop<;
+      rides = t .ok .rides (j - 1) (let a = t .few in omega arith);
     }
 
     module _ {r : Found} (e : r ≡ foundOf (stepIn T labels (j - 1) p)) where

@@ -8,6 +8,7 @@ use lib.ListN.{length, getD}
 use Rattle.laws.specs.Lists.{part, over}
 use Rattle.paper.specs.Rules.{Fit}
 use Rattle.paper.specs.Timetable.{Tables, nOf}
+use Rattle.paper.specs.Rows.{rideTo}
 use Rattle.paper.specs.Tie.{firstStep, boardStop, entriesOf}
 use Rattle.paper.specs.Reply.{questionBroken, inNine, labelsTable, legsTable}
 use Rattle.paper.specs.declared.Leg.{Leg}
@@ -23,12 +24,17 @@ rowIn labels k stops = part (k * 256) (k * 256 + stops) labels
 abbrev pub stepIn : Tables → List ℕ → ℕ → ℕ → Option Leg
 stepIn T labels k p = firstStep T (rowIn labels k (T .stops)) p (getD labels (k * 256 + 256 + p) 0)
 
+-- no ride that row k permits comes to a stop before row k + 1's label of it
+abbrev pub RidesAfter : Tables → List ℕ → ℕ → Type 0
+RidesAfter T labels k = (s : ℕ) → s < T .stops → getD labels (k * 256 + 256 + s) 0 ≤ rideTo T (rowIn labels k (T .stops)) s
+
 -- there is a row after row k, and p is a stop
 pub record Stepping (T : Tables) (labels : List ℕ) (k p : ℕ) : Type 0 where
   pub fit : Fit T
   pub room : 2304 ≤ length labels
   pub few : k < 8
   pub stop : p < T .stops
+  pub rides : RidesAfter T labels k
 
 -- a leg's boarding position stands in table 2, and the stop there
 pub record Placed (t1 t2 : List ℕ) (g : Leg) : Type 0 where
@@ -57,6 +63,7 @@ pub record Traceable (T : Tables) (labels : List ℕ) (room k p : ℕ) : Type 0 
   pub labels-room : 2304 ≤ length labels
   pub legs-room : 320 ≤ room
   pub few : k ≤ 8
+  pub rides : (j : ℕ) → j < k → RidesAfter T labels j
   pub leads : Leads T labels k p
 
 -- a good question about a sound timetable, with its labels and room for the legs

@@ -6,11 +6,11 @@ use mathlib.Core.Option.{Option, none, some}
 use Prim.Native.Nat.{ℕ, zero, suc, _+_, _*_, _≤_, _<_}
 use lib.Dec.{eqb, leb, ltb}
 use lib.ListN.{length, getD}
-use Rattle.laws.specs.Below.{mark, anyBelow, firstBelow}
+use Rattle.laws.specs.Below.{mark, firstBelow}
 use Rattle.laws.specs.Lists.{tab}
 use Rattle.paper.specs.Timetable.{Tables}
 use Rattle.paper.specs.Rules.{Fit}
-use Rattle.paper.specs.Rows.{label}
+use Rattle.paper.specs.Rows.{label, rideTo}
 use Rattle.paper.specs.declared.Leg.{Leg}
 use Rattle.paper.specs.declared.After.the-variants.{Stays, WalksTo}
 use Rattle.journeys.specs.declared.Found.{Found}
@@ -43,14 +43,19 @@ pub record WalksIn (t5 : List ℕ) (count : ℕ) : Type 0 where
   pub from< : (w : ℕ) → w < count → getD t5 (w * 3) 0 < 256
   pub once : (w z : ℕ) → w < count → z < count → getD t5 (w * 3) 0 ≡ getD t5 (z * 3) 0 → getD t5 (w * 3 + 1) 0 ≡ getD t5 (z * 3 + 1) 0 → w ≡ z
 
--- from stop s, by a walk of so many seconds: 0 is no walk
-abbrev pub onFoot : ℕ → ℕ → ℕ → Way
-onFoot p s seconds = cond (eqb seconds 0) Shut (Open s seconds (WalksTo p))
+-- from stop s, by a walk of so many seconds: 0 is no walk, and it is too late where the next row's label of s and the seconds are after v
+abbrev pub onFoot : List ℕ → ℕ → ℕ → ℕ → ℕ → Way
+onFoot next p v s seconds = cond (eqb seconds 0) Shut (cond (ltb v (getD next s 0 + seconds)) Shut (Open s seconds (WalksTo p)))
 
--- the ways in to p, in the tie rule's order: 0 stays at p, s + 1 walks to p from s
-unfoldable pub wayOf : List ℕ → ℕ → ℕ → Way
-wayOf seconds p zero = Open p 0 Stays
-wayOf seconds p (suc s) = onFoot p s (getD seconds s 0)
+-- the ways in to p at v, in the tie rule's order: 0 stays at p, s + 1 walks to p from s
+unfoldable pub wayOf : List ℕ → List ℕ → ℕ → ℕ → ℕ → Way
+wayOf seconds next p v zero = Open p 0 Stays
+wayOf seconds next p v (suc s) = onFoot next p v s (getD seconds s 0)
+
+-- the stop walked from is one of 256 and has a label
+pub record WayIn (next : List ℕ) (way : ℕ) : Type 0 where
+  pub few : way ≤ 256
+  pub labelled : way ≤ length next
 
 -- ---- a route
 
@@ -65,8 +70,22 @@ stopIn t2 x i = getD t2 (x .first + i) 0
 abbrev pub timeIn : List ℕ → Extent → ℕ → ℕ → ℕ
 timeIn t x j i = getD t (x .event + (j * x .n + i)) 0
 
-unfoldable pub visitsIn : List ℕ → Extent → ℕ → Bool
-visitsIn t2 x s = anyBelow (x .n) λ i. eqb (stopIn t2 x i) s
+-- is its position i at stop s?
+abbrev pub visitAt : List ℕ → Extent → ℕ → ℕ → Bool
+visitAt t2 x s i = eqb (stopIn t2 x i) s
+
+-- its first position at stop s, n if there is none
+unfoldable pub firstVisit : List ℕ → Extent → ℕ → ℕ
+firstVisit t2 x s = firstBelow (x .n) (visitAt t2 x s)
+
+-- the number after the last below k of which p holds; 0 if there is none
+unfoldable pub pastBelow : ℕ → (ℕ → Bool) → ℕ
+pastBelow zero p = zero
+pastBelow (suc k) p = cond (p k) (suc k) (pastBelow k p)
+
+-- the position after its last at stop s, 0 if there is none
+unfoldable pub pastVisit : List ℕ → Extent → ℕ → ℕ
+pastVisit t2 x s = pastBelow (x .n) (visitAt t2 x s)
 
 pub record Ending (t2 t3 : List ℕ) (x : Extent) (j l : ℕ) : Type 0 where
   pub position : x .first + l < length t2
@@ -85,7 +104,9 @@ boardsIn t2 t4 row x j i = not (eqb (label row (stopIn t2 x i)) mark) && leb (la
 
 -- ---- the whole
 
--- and a row with a label for each stop
-pub record Searched (T : Tables) (row : List ℕ) : Type 0 where
+-- a row with a label for each stop, and the next, whose label of a stop is not after a ride that the row permits
+pub record Searched (T : Tables) (row next : List ℕ) : Type 0 where
   pub fit : Fit T
   pub labelled : T .stops ≤ length row
+  pub next-labelled : T .stops ≤ length next
+  pub next-first : (s : ℕ) → s < T .stops → getD next s 0 ≤ rideTo T row s

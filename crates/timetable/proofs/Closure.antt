@@ -1,18 +1,18 @@
 -- 11: the walks rise, so those of one stop stand together, and no two go the same way.
 use mathlib.Core.Path.{_≡_, refl, sym, _∙_}
 use mathlib.Core.Logic.{⊎-elim}
-use mathlib.Core.Bool.{Bool, true, false, not, _&&_, _||_}
+use mathlib.Core.Bool.{Bool, false, not, _||_}
 use mathlib.Core.List.{List}
-use Prim.Native.Nat.{ℕ, zero, suc, _+_, _*_, _≤_, _<_}
+use Prim.Native.Nat.{ℕ, _+_, _*_, _≤_, _<_}
 use native.Mathlib.Omega.{arith}
 use lib.Dec.{eqb, leb, ltb}
-use lib.ListN.{length, getD, set, replicate, length-replicate, length-set}
+use lib.ListN.{length, getD, set, replicate, length-replicate, getD-replicate, length-set}
 use lib.Seq.{getD-set-same, getD-set-other}
-use borrow.Author.Tests.{leb-true, leb-false, le-leb, lt-leb, eqb-true, eqb-false, eq-eqb, ne-eqb, le-ltb, ltb-false}
+use borrow.Author.Tests.{leb-true, leb-false, le-leb, lt-leb, eqb-true, eqb-false, eq-eqb, ne-eqb, lt-ltb, le-ltb}
 use Rattle.laws.specs.Below.{anyBelow}
 use Rattle.laws.proofs.Tests.{by-test, by-lt, both-ways}
-use Rattle.laws.proofs.Checking.{or-none, climb-over}
-use Rattle.laws.proofs.Below.{Passed, passed-none, passed-more, firstBelow-le, firstBelow-not, firstBelow-hit, first-found, first-end, anyBelow-of, anyBelow-all-false}
+use Rattle.laws.proofs.Checking.{climb-over}
+use Rattle.laws.proofs.Below.{Passed, passed-none, passed-more, firstBelow-le, firstBelow-not, firstBelow-hit, first-found, first-end, anyBelow-next, anyBelow-hit, anyBelow-of, anyBelow-none, anyBelow-all-false}
 use Rattle.paper.specs.Timetable.{Tables, walkFrom, walkTo, walkSeconds}
 use Rattle.paper.specs.Rules.{within, gap, opens, Via}
 use Rattle.paper.proofs.Places.{via-right, via-whole}
@@ -121,21 +121,22 @@ pub record Near (T : Tables) (a w : ℕ) (xs : List ℕ) : Type 0 where
   pub begun : beginOf T a ≤ w
   pub long : length xs ≡ 256
   pub every : (v : ℕ) → v < w → walkFrom T v ≡ a → getD xs (walkTo T v) 0 ≡ walkSeconds T v
-  pub only : (c : ℕ) → 0 < getD xs c 0 → Via T a c (getD xs c 0)
-
-zeros : (k c : ℕ) → _≡_ {A = ℕ} (getD (replicate k 0) c 0) 0
-zeros zero c = refl
-zeros (suc k) zero = refl
-zeros (suc k) (suc c) = zeros k c
+  pub self : getD xs a 0 ≡ 0
+  pub only : (c : ℕ) → c < 256 → (c ≡ a → ⊥) → getD xs c 0 < 4294967295 → Via T a c (getD xs c 0)
 
 module _ (T : Tables) (a : ℕ) where
-  pub near-start : {w : ℕ} → w ≡ beginOf T a → Near T a w (replicate 256 0)
-  near-start {w} e =
+  abbrev marks : List ℕ
+  marks = replicate 256 4294967295
+
+  pub near-start : {w : ℕ} → a < 256 → w ≡ beginOf T a → Near T a w (set marks a 0)
+  near-start {w} l e =
+      let long : length marks ≡ 256 = length-replicate {A = ℕ} 256 4294967295 in
       record {
         begun = omega arith;
-        long = length-replicate {A = ℕ} 256 0;
-        every = λ v l z. absurd (omega (arith, begin-before T a v (omega arith)));
-        only = λ c l. absurd (omega (arith, zeros 256 c));
+        long = length-set marks a 0 ∙ long;
+        every = λ v m z. absurd (omega (arith, begin-before T a v (omega arith)));
+        self = getD-set-same marks a 0 0 (omega arith);
+        only = λ c b n m. absurd (omega (arith, getD-set-other marks a c 0 0 n, getD-replicate {A = ℕ} 256 c 4294967295 0 b));
       }
 
   module _ (h : Walked T) where
@@ -166,7 +167,8 @@ module _ (T : Tables) (a : ℕ) where
               (λ k. getD-set-other xs (walkTo T w) (walkTo T v) (walkSeconds T w) 0
               (λ q. omega (arith, key-over T h v w k (t .below), t .from-here)) ∙ n .every v k z)
               (λ k. let q : v ≡ w = omega arith in rw q here);
-          only = λ c m. by-test (eqb c (walkTo T w))
+          self = getD-set-other xs (walkTo T w) a (walkSeconds T w) 0 (λ q. h .walk w (t .below) .other (t .from-here ∙ q)) ∙ n .self;
+          only = λ c b o m. by-test (eqb c (walkTo T w))
               (λ q. let z : c ≡ walkTo T w = eqb-true c (walkTo T w) q in
               record {
                 walk = w;
@@ -177,7 +179,7 @@ module _ (T : Tables) (a : ℕ) where
               })
               (λ q. let z : getD (set xs (walkTo T w) (walkSeconds T w)) c 0 ≡ getD xs c 0 =
               getD-set-other xs (walkTo T w) c (walkSeconds T w) 0 (eqb-false c (walkTo T w) q) in
-              rw z (n .only c (omega arith)));
+              rw z (n .only c b o (omega arith)));
         }
 
     pub near-end : (w : ℕ) (xs : List ℕ) {end : ℕ} → Near T a w xs → end ≡ beginOf T (a + 1) → end ≤ w → SecondsFrom T a xs
@@ -185,36 +187,31 @@ module _ (T : Tables) (a : ℕ) where
         record {
           long = n .long;
           every = λ v m z. by-lt v w (λ k. n .every v k z) (λ k. absurd (omega (arith, begin-past T h (a + 1) v (omega arith) m)));
+          self = n .self;
           only = n .only;
         }
 
 -- ---- one pair of walks
 
-module _ (T : Tables) (h : Walked T) (v w : ℕ) (xs : List ℕ) (near : SecondsFrom T (walkFrom T v) xs) where
+module _ (T : Tables) (h : Walked T) (v w : ℕ) (xs : List ℕ) (near : SecondsFrom T (walkFrom T v) xs) (lv : v < T .walks) (lw : w < T .walks) where
   abbrev direct : ℕ
   direct = getD xs (walkTo T w) 0
 
   abbrev both : ℕ
   both = walkSeconds T v + walkSeconds T w
 
-  abbrev missing : Bool
-  missing = eqb direct 0 || ltb both direct
-
   abbrev closed : Bool
   closed = anyBelow (T .walks) (within T (walkFrom T v) (walkTo T w) both)
 
-  closed-is : not closed ≡ missing
-  closed-is =
+  closed-is : (walkTo T w ≡ walkFrom T v → ⊥) → not closed ≡ ltb both direct
+  closed-is other =
       by-test closed
       (λ t. let x = via-right T (walkFrom T v) (walkTo T w) both t in
       let d : direct ≡ walkSeconds T (x .walk) = rw (x .to) at (near .every (x .walk) (x .walk<) (x .from)) in
       let l = x .no-longer in
-      let p = h .walk (x .walk) (x .walk<) .seconds≥ in
-      rw (t, ne-eqb direct 0 (λ z. omega arith), le-ltb both direct (omega arith)))
-      (λ f. by-test missing (λ t. rw (f, t)) (λ t. let y = or-none (eqb direct 0) (ltb both direct) t in
-      let z : 0 < direct = by-lt 0 direct (λ k. k) (λ k. absurd (eqb-false direct 0 (y .0) (omega arith))) in
-      let q = ltb-false both direct (y .1) in
-      let u = near .only (walkTo T w) z in
+      rw (t, le-ltb both direct (omega arith)))
+      (λ f. by-lt both direct (λ l. rw (f, lt-ltb both direct l)) (λ l.
+      let u = near .only (walkTo T w) (to-small T h w lw) other (omega (arith, h .walk v lv .seconds≤, h .walk w lw .seconds≤)) in
       both-ways (via-whole T (walkFrom T v) (walkTo T w) both (record {
         walk = u .walk;
         walk< = u .walk<;
@@ -223,10 +220,14 @@ module _ (T : Tables) (h : Walked T) (v w : ℕ) (xs : List ℕ) (near : Seconds
         no-longer = omega (arith, u .no-longer);
       })) f))
 
-  -- the code's test of the pair
-  pub gap-test : walkFrom T w ≡ walkTo T v → (not (eqb (walkTo T w) (walkFrom T v)) && missing) ≡ gap T v w
+  -- the code's test of the pair: back to where it began is no farther than nothing
+  pub gap-test : walkFrom T w ≡ walkTo T v → ltb both direct ≡ gap T v w
   unfolding gap
-  gap-test e = rw (eq-eqb (walkFrom T w) (walkTo T v) e, closed-is)
+  gap-test e =
+      by-test (eqb (walkTo T w) (walkFrom T v))
+      (λ t. let z : direct ≡ 0 = rw (← eqb-true (walkTo T w) (walkFrom T v) t) at (near .self) in
+      rw (t, z, eq-eqb (walkFrom T w) (walkTo T v) e, le-ltb both 0 (omega arith)))
+      (λ f. rw (eq-eqb (walkFrom T w) (walkTo T v) e, f, closed-is (eqb-false (walkTo T w) (walkFrom T v) f)))
 
 pub gap-elsewhere : (T : Tables) (v w : ℕ) → (walkFrom T w ≡ walkTo T v → ⊥) → gap T v w ≡ false
 unfolding gap
@@ -234,41 +235,44 @@ gap-elsewhere T v w n = rw (ne-eqb (walkFrom T w) (walkTo T v) n)
 
 -- ---- the walks that follow walk v
 
-pub record Following (T : Tables) (v w : ℕ) : Type 0 where
+pub record Following (T : Tables) (v w : ℕ) (wrong : Bool) : Type 0 where
   pub begun : beginOf T (walkTo T v) ≤ w
-  pub passed : Passed (gap T v) w
+  pub upto : w ≤ T .walks
+  pub told : wrong ≡ anyBelow w (gap T v)
 
 module _ (T : Tables) (v : ℕ) where
-  pub following-start : {w : ℕ} → w ≡ beginOf T (walkTo T v) → Following T v w
+  pub following-start : {w : ℕ} → w ≡ beginOf T (walkTo T v) → Following T v w false
   following-start {w} e =
       record {
         begun = omega arith;
-        passed = λ x l. gap-elsewhere T v x (λ z. omega (arith, begin-before T (walkTo T v) x (omega arith)));
+        upto = omega (arith, begin-most T (walkTo T v));
+        told = sym (anyBelow-all-false w (gap T v) (λ x l. gap-elsewhere T v x (λ z. omega (arith, begin-before T (walkTo T v) x (omega arith)))));
       }
 
   module _ (h : Walked T) where
-    pub follows : (w : ℕ) {end : ℕ} → Following T v w → end ≡ beginOf T (walkTo T v + 1) → w < end →
+    pub follows : (w : ℕ) {wrong : Bool} {end : ℕ} → Following T v w wrong → end ≡ beginOf T (walkTo T v + 1) → w < end →
         (w < T .walks) × (walkFrom T w ≡ walkTo T v) × (walkTo T w < 256)
     follows w n e l =
         let m : w < beginOf T (walkTo T v + 1) = omega arith in
         let b : w < T .walks = omega (arith, begin-most T (walkTo T v + 1)) in
         (b, from-is T h (walkTo T v) w (n .begun) m, to-small T h w b)
 
-    pub following-next : (w : ℕ) → Following T v w → gap T v w ≡ false → Following T v (w + 1)
-    following-next w n f =
+    pub following-next : (w : ℕ) {wrong test : Bool} → Following T v w wrong → w < T .walks → test ≡ gap T v w → Following T v (w + 1) (wrong || test)
+    following-next w n l t =
         let b = n .begun in
-        record { begun = omega arith; passed = passed-more (gap T v) w (n .passed) f }
+        record { begun = omega arith; upto = omega arith; told = rw (n .told, t) (sym (anyBelow-next w (gap T v))) }
 
-    pub following-found : (w : ℕ) → w < T .walks → gap T v w ≡ true → true ≡ opens T v
-    unfolding opens
-    following-found w l t = sym (anyBelow-of (T .walks) (gap T v) w l t)
-
-    pub following-end : (w : ℕ) {end : ℕ} → Following T v w → end ≡ beginOf T (walkTo T v + 1) → end ≤ w → false ≡ opens T v
+    pub following-end : (w : ℕ) {wrong : Bool} {end : ℕ} → Following T v w wrong → end ≡ beginOf T (walkTo T v + 1) → end ≤ w → wrong ≡ opens T v
     unfolding opens
     following-end w n e l =
-        sym (anyBelow-all-false (T .walks) (gap T v) (λ x m. by-lt x w
-        (λ k. n .passed x k)
-        (λ k. gap-elsewhere T v x (λ z. omega (arith, begin-past T h (walkTo T v + 1) x (omega arith) m)))))
+        let u = n .upto in
+        n .told ∙ by-test (anyBelow w (gap T v))
+        (λ t. let x = anyBelow-hit w (gap T v) t in
+        let m : x .0 < w = x .1 in
+        t ∙ sym (anyBelow-of (T .walks) (gap T v) (x .0) (omega arith) (x .2)))
+        (λ f. f ∙ sym (anyBelow-all-false (T .walks) (gap T v) (λ x m. by-lt x w
+        (λ k. anyBelow-none w (gap T v) f x k)
+        (λ k. gap-elsewhere T v x (λ z. omega (arith, begin-past T h (walkTo T v + 1) x (omega arith) m))))))
 
 -- what a turn of the loop over these walks reads
 pub record Pair (T : Tables) (seconds : List ℕ) (v w : ℕ) : Type 0 where
@@ -280,7 +284,7 @@ pub record Pair (T : Tables) (seconds : List ℕ) (v w : ℕ) : Type 0 where
   pub below : w < T .walks
   pub follows : walkFrom T w ≡ walkTo T v
 
-pub pair : (T : Tables) (begins seconds : List ℕ) (v w : ℕ) → OnWalk T begins seconds v → Following T v w →
+pub pair : (T : Tables) (begins seconds : List ℕ) (v w : ℕ) {wrong : Bool} → OnWalk T begins seconds v → Following T v w wrong →
     w < getD begins (walkTo T v + 1) 0 → Pair T seconds v w
 pair T begins seconds v w h n l =
     let to = to-small T (h .walked) v (h .below) in

@@ -2,6 +2,7 @@
 pub mod Loops
 pub mod CountTests
 pub mod EventTests
+pub mod Folds
 pub mod WalkTests
 pub mod Routes
 pub mod Closure

@@ -92,7 +92,9 @@ module _ (count : ℕ) (t1 t3 t4 : List ℕ) where
       let e = h .laid .events≤ r l in
       let a = h .arrivals in
       let d = h .departures in
+      let n = h .laid .n≥ r l in
       record {
+        n≥ = omega arith;
         n≤ = h .laid .n≤ r l;
         m≥ = h .laid .m≥ r l;
         m≤ = h .laid .m≤ r l;

@@ -2,3 +2,4 @@
 pub mod Places
 pub mod Needed
 pub mod Walks
+pub mod Folds

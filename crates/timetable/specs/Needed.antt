@@ -59,6 +59,7 @@ pub record TimesLaid (count : ℕ) (t1 t3 t4 : List ℕ) : Type 0 where
 
 -- one route's own times
 pub record InRoute (n m : ℕ) (arrivals departures : List ℕ) : Type 0 where
+  pub n≥ : 1 ≤ n
   pub n≤ : n ≤ 64
   pub m≥ : 1 ≤ m
   pub m≤ : m ≤ 512

@@ -41,11 +41,12 @@ pub record Begins (T : Tables) (xs : List ℕ) : Type 0 where
   pub long : length xs ≡ 257
   pub is : (s : ℕ) → s < 257 → getD xs s 0 ≡ beginOf T s
 
--- for each stop the seconds of the walk from a to it, 0 where there is none
+-- for each stop the seconds of the walk from a to it: 0 to itself, and the mark where there is none
 pub record SecondsFrom (T : Tables) (a : ℕ) (xs : List ℕ) : Type 0 where
   pub long : length xs ≡ 256
   pub every : (w : ℕ) → w < T .walks → walkFrom T w ≡ a → getD xs (walkTo T w) 0 ≡ walkSeconds T w
-  pub only : (c : ℕ) → 0 < getD xs c 0 → Via T a c (getD xs c 0)
+  pub self : getD xs a 0 ≡ 0
+  pub only : (c : ℕ) → c < 256 → (c ≡ a → ⊥) → getD xs c 0 < 4294967295 → Via T a c (getD xs c 0)
 
 pub record FromStop (T : Tables) (begins : List ℕ) (a : ℕ) : Type 0 where
   pub walked : Walked T

@@ -64,12 +64,13 @@ pub fn begins_of(stops: u32, count: u32, walks: &[u32]) -> [u32; 257]
     begins
 }
 
-// The seconds to walk from a to each stop, 0 where there is no walk.
+// The seconds to walk from a to each stop: 0 to itself, and the mark where there is no walk.
 pub fn seconds_from(stops: u32, count: u32, walks: &[u32], begins: &[u32], a: u32) -> [u32; 256]
     requires { ⌜ FromStop (ofWalks stops count (now walks)) (now begins) a ⌝ }
     ensures { λ r. ⌜ SecondsFrom (ofWalks stops count (now (walks .entry))) a r ⌝ }
 {
-    let mut seconds: [u32; 256] = [0; 256];
+    let mut seconds: [u32; 256] = [4294967295; 256];
+    seconds[a as usize] = 0;
     let first = begins[a as usize];
     let end = begins[(a + 1) as usize];
     for w in first..end {
@@ -80,6 +81,7 @@ pub fn seconds_from(stops: u32, count: u32, walks: &[u32], begins: &[u32], a: u3
 }
 
 // 11: walk v, a to b, is followed by a walk b to c, and no walk a to c takes no longer than both.
+// All walks that follow are tested: that is quicker than a way out at each.
 pub fn opens_at(
     stops: u32,
     count: u32,
@@ -92,20 +94,18 @@ pub fn opens_at(
     ensures { λ r. ⌜ r ≡ opens (ofWalks stops count (now (walks .entry))) v ⌝ }
 {
     let at = (v as usize) * 3;
-    let a = walks[at];
     let b = walks[at + 1];
     let first = begins[b as usize];
     let end = begins[(b + 1) as usize];
+    let mut wrong = false;
     for w in first..end {
         let next = (w as usize) * 3;
         let c = walks[next + 1];
         let direct = seconds[c as usize];
         let both = walks[at + 2] + walks[next + 2];
-        if (c != a) & ((direct == 0) | (both < direct)) {
-            return true;
-        }
+        wrong = wrong | (both < direct);
     }
-    false
+    wrong
 }
 
 // 11: the lowest walk that shows that the walks are not closed.
@@ -113,6 +113,9 @@ pub fn lowest_open(stops: u32, count: u32, walks: &[u32]) -> Place
     requires { ⌜ Walked (ofWalks stops count (now walks)) ⌝ }
     ensures { λ r. ⌜ r ≡ placeOf (lowestOf count (opens (ofWalks stops count (now (walks .entry))))) ⌝ }
 {
+    if count == 0 {
+        return Place::Nowhere;
+    }
     let begins = begins_of(stops, count, walks);
     let mut from: u32 = 256;
     let mut seconds: [u32; 256] = [0; 256];

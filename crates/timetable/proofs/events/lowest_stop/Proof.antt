@@ -6,6 +6,7 @@ use Rattle.paper.proofs.Places.{stop-whole}
 use Rattle.timetable.specs.Places.{ofStops}
 use Rattle.timetable.proofs.Loops.{at-lowest, no-lowest}
 use Rattle.timetable.proofs.CountTests.{stop-broken}
+use Rattle.timetable.proofs.Folds.{stop-none}
 use borrow.Author.Needs.{needs}
 use Rattle.timetable.proofs.events.lowest_stop.Statement.{statement}
 use Rattle.timetable.proofs.events.lowest_stop.Tie as tie
@@ -18,20 +19,26 @@ abbrev μ-loop : tie.MeasureT-loop
 μ-loop stops count positions p₀ p =
     count - p
 
+stops-wrong-requires : tie.Need-stops-wrong-requires Inv-loop μ-loop
+stops-wrong-requires c κs = c .before .pre
+
+returns : tie.Need-returns Inv-loop μ-loop
+returns c = stop-none _ _ _ (c .before .stops-wrong .ensures) (c .if1 .taken)
+
 loop-holds : tie.Need-loop-holds Inv-loop μ-loop
 loop-holds c = (search needs, passed-none _)
 
-cast-if1 : tie.Need-cast-if1 Inv-loop μ-loop
-cast-if1 c = search needs
+cast-if2 : tie.Need-cast-if2 Inv-loop μ-loop
+cast-if2 c = search needs
 
-mul-if1 : tie.Need-mul-if1 Inv-loop μ-loop
-mul-if1 c = search needs
+mul-if2 : tie.Need-mul-if2 Inv-loop μ-loop
+mul-if2 c = search needs
 
-shared-slice-read-if1 : tie.Need-shared-slice-read-if1 Inv-loop μ-loop
-shared-slice-read-if1 c = search needs
+shared-slice-read-if2 : tie.Need-shared-slice-read-if2 Inv-loop μ-loop
+shared-slice-read-if2 c = search needs
 
-returns : tie.Need-returns Inv-loop μ-loop
-returns c = at-lowest _ _ _ (c .before .before .loop-test .taken) (c .before .before .before .loop .inv .1) (stop-broken _ _ (c .if1 .taken))
+returns-2 : tie.Need-returns-2 Inv-loop μ-loop
+returns-2 c = at-lowest _ _ _ (c .before .before .loop-test .taken) (c .before .before .before .loop .inv .1) (stop-broken _ _ (c .if2 .taken))
 
 add-p : tie.Need-add-p Inv-loop μ-loop
 add-p c = search needs
@@ -40,10 +47,10 @@ loop-less : tie.Need-loop-less Inv-loop μ-loop
 loop-less c = search needs
 
 loop-again : tie.Need-loop-again Inv-loop μ-loop
-loop-again c = (search needs, passed-more _ _ (c .before .before .before .loop .inv .1) (stop-whole _ _ (c .if1 .left)))
+loop-again c = (search needs, passed-more _ _ (c .before .before .before .loop .inv .1) (stop-whole _ _ (c .if2 .left)))
 
-returns-2 : tie.Need-returns-2 Inv-loop μ-loop
-returns-2 c = no-lowest _ _ _ (search needs) (c .before .loop .inv .1)
+returns-3 : tie.Need-returns-3 Inv-loop μ-loop
+returns-3 c = no-lowest _ _ _ (search needs) (c .before .loop .inv .1)
 
 pub lowest-stop-spec : {M : Type 1} → statement M
 lowest-stop-spec =
@@ -51,12 +58,14 @@ lowest-stop-spec =
     (tie.spec
     Inv-loop
     μ-loop
-    loop-holds
-    cast-if1
-    mul-if1
-    shared-slice-read-if1
+    stops-wrong-requires
     returns
+    loop-holds
+    cast-if2
+    mul-if2
+    shared-slice-read-if2
+    returns-2
     add-p
     loop-less
     loop-again
-    returns-2)
+    returns-3)

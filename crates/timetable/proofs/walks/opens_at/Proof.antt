@@ -1,19 +1,18 @@
 -- `timetable::walks::opens_at`: the walks passed show no gap.
-use mathlib.Core.Path.{sym, _∙_}
 use Prim.Native.Nat.{_-_}
 use native.Mathlib.Omega.{arith}
 use Rattle.timetable.specs.Places.{ofWalks}
-use Rattle.timetable.proofs.Closure.{gap-test, Following, following-start, following-next, following-found, following-end, Pair, pair, First, first}
+use Rattle.timetable.proofs.Closure.{gap-test, Following, following-start, following-next, following-end, Pair, pair, First, first}
 use borrow.Author.Needs.{needs}
 use Rattle.timetable.proofs.walks.opens_at.Statement.{statement}
 use Rattle.timetable.proofs.walks.opens_at.Tie as tie
 
 abbrev Inv-loop : tie.InvT-loop
-Inv-loop stops count walks begins seconds v at a b first end w₀ w =
-    Following (ofWalks stops count walks) v w
+Inv-loop stops count walks begins seconds v at b first end wrong₀ w₀ wrong w =
+    Following (ofWalks stops count walks) v w wrong
 
 abbrev μ-loop : tie.MeasureT-loop
-μ-loop stops count walks begins seconds v at a b first end w₀ w =
+μ-loop stops count walks begins seconds v at b first end wrong₀ w₀ wrong w =
     end - w
 
 -- what is known before the loop, and at a turn of it
@@ -21,7 +20,7 @@ facts : (c : tie.Start Inv-loop μ-loop) → First (ofWalks (c .args .stops) (c 
 facts c = first _ _ _ _ (c .pre)
 
 abbrev start : tie.In-loop Inv-loop μ-loop → tie.Start Inv-loop μ-loop
-start c = c .before .before .before .before .before .before
+start c = c .before .before .before .before .before
 
 turn : (c : tie.In-loop Inv-loop μ-loop) →
     Pair (ofWalks (start c .args .stops) (start c .args .count) (start c .args .walks .now)) (start c .args .seconds .now) (start c .args .v) (c .before .loop .w)
@@ -30,44 +29,38 @@ turn c = pair _ _ _ _ _ (start c .pre) (c .before .loop .inv) (c .loop-test .tak
 mul-at : tie.Need-mul-at Inv-loop μ-loop
 mul-at c = let f = facts (c) in omega arith
 
-mul-a : tie.Need-mul-a Inv-loop μ-loop
-mul-a c = let f = facts (c) in omega arith
-
-shared-slice-read-a : tie.Need-shared-slice-read-a Inv-loop μ-loop
-shared-slice-read-a c = let f = facts (c .before) in omega arith
-
 add-b : tie.Need-add-b Inv-loop μ-loop
-add-b c = let f = facts (c .before) in omega arith
+add-b c = let f = facts (c) in omega arith
 
 mul-b : tie.Need-mul-b Inv-loop μ-loop
-mul-b c = let f = facts (c .before) in omega arith
+mul-b c = let f = facts (c) in omega arith
 
 shared-slice-read-b : tie.Need-shared-slice-read-b Inv-loop μ-loop
-shared-slice-read-b c = let f = facts (c .before .before) in omega arith
+shared-slice-read-b c = let f = facts (c .before) in omega arith
 
 cast-first : tie.Need-cast-first Inv-loop μ-loop
-cast-first c = let f = facts (c .before .before) in omega arith
+cast-first c = let f = facts (c .before) in omega arith
 
 mul-first : tie.Need-mul-first Inv-loop μ-loop
-mul-first c = let f = facts (c .before .before) in omega arith
+mul-first c = let f = facts (c .before) in omega arith
 
 shared-slice-read-first : tie.Need-shared-slice-read-first Inv-loop μ-loop
-shared-slice-read-first c = let f = facts (c .before .before .before) in omega arith
+shared-slice-read-first c = let f = facts (c .before .before) in omega arith
 
 add-end : tie.Need-add-end Inv-loop μ-loop
-add-end c = let f = facts (c .before .before .before) in omega arith
+add-end c = let f = facts (c .before .before) in omega arith
 
 cast-end : tie.Need-cast-end Inv-loop μ-loop
-cast-end c = let f = facts (c .before .before .before) in omega arith
+cast-end c = let f = facts (c .before .before) in omega arith
 
 mul-end : tie.Need-mul-end Inv-loop μ-loop
-mul-end c = let f = facts (c .before .before .before) in omega arith
+mul-end c = let f = facts (c .before .before) in omega arith
 
 shared-slice-read-end : tie.Need-shared-slice-read-end Inv-loop μ-loop
-shared-slice-read-end c = let f = facts (c .before .before .before .before) in omega arith
+shared-slice-read-end c = let f = facts (c .before .before .before) in omega arith
 
 loop-holds : tie.Need-loop-holds Inv-loop μ-loop
-loop-holds c = following-start _ _ (c .before .before .before .before .pre .starts .is _ (facts (c .before .before .before .before) .to<))
+loop-holds c = following-start _ _ (c .before .before .before .pre .starts .is _ (facts (c .before .before .before) .to<))
 
 cast-next : tie.Need-cast-next Inv-loop μ-loop
 cast-next c = let t = turn (c) in omega arith
@@ -114,20 +107,17 @@ shared-slice-read-both-2 c = let t = turn (c .before .before .before .before) in
 add-both-3 : tie.Need-add-both-3 Inv-loop μ-loop
 add-both-3 c = let t = turn (c .before .before .before .before) in omega arith
 
-returns : tie.Need-returns Inv-loop μ-loop
-returns c = following-found _ _ (c .before .before .before .before .before .before .before .before .before .before .before .pre .walked) _ (turn (c .before .before .before .before .before) .below) (sym (gap-test _ (c .before .before .before .before .before .before .before .before .before .before .before .pre .walked) _ _ _ (c .before .before .before .before .before .before .before .before .before .before .before .pre .near) (turn (c .before .before .before .before .before) .follows)) ∙ c .if1 .taken)
-
 add-w : tie.Need-add-w Inv-loop μ-loop
-add-w c = let t = turn (c .before .before .before .before .before) in omega arith
+add-w c = let t = turn (c .before .before .before .before) in omega arith
 
 loop-less : tie.Need-loop-less Inv-loop μ-loop
 loop-less c = search needs
 
 loop-again : tie.Need-loop-again Inv-loop μ-loop
-loop-again c = following-next _ _ (c .before .before .before .before .before .before .before .before .before .before .before .pre .walked) _ (c .before .before .before .before .before .before .loop .inv) (sym (gap-test _ (c .before .before .before .before .before .before .before .before .before .before .before .pre .walked) _ _ _ (c .before .before .before .before .before .before .before .before .before .before .before .pre .near) (turn (c .before .before .before .before .before) .follows)) ∙ c .if1 .left)
+loop-again c = following-next _ _ (c .before .before .before .before .before .before .before .before .before .pre .walked) _ (c .before .before .before .before .before .loop .inv) (turn (c .before .before .before .before) .below) (gap-test _ (c .before .before .before .before .before .before .before .before .before .pre .walked) _ _ _ (c .before .before .before .before .before .before .before .before .before .pre .near) (c .before .before .before .before .before .before .before .before .before .pre .below) (turn (c .before .before .before .before) .below) (turn (c .before .before .before .before) .follows))
 
-returns-2 : tie.Need-returns-2 Inv-loop μ-loop
-returns-2 c = following-end _ _ (c .before .before .before .before .before .before .pre .walked) _ (c .before .loop .inv) (c .before .before .before .before .before .before .pre .starts .is _ (facts (c .before .before .before .before .before .before) .next<)) (c .loop-test .left)
+returns : tie.Need-returns Inv-loop μ-loop
+returns c = following-end _ _ (c .before .before .before .before .before .pre .walked) _ (c .before .loop .inv) (c .before .before .before .before .before .pre .starts .is _ (facts (c .before .before .before .before .before) .next<)) (c .loop-test .left)
 
 pub opens-at-spec : {M : Type 1} → statement M
 opens-at-spec =
@@ -136,8 +126,6 @@ opens-at-spec =
     Inv-loop
     μ-loop
     mul-at
-    mul-a
-    shared-slice-read-a
     add-b
     mul-b
     shared-slice-read-b
@@ -164,8 +152,7 @@ opens-at-spec =
     mul-both-2
     shared-slice-read-both-2
     add-both-3
-    returns
     add-w
     loop-less
     loop-again
-    returns-2)
+    returns)
