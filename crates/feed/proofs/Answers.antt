@@ -20,24 +20,19 @@ use Rattle.paper.specs.declared.Reading.{Reading}
 use Rattle.paper.specs.declared.Writing.{Writing}
 use Rattle.paper.proofs.Checks.{sound-of}
 use Rattle.paper.proofs.Lowest.{given-nothing}
-use Rattle.timetable.specs.Places.{placeOf, faultAs, fiveLengths, shortPlace}
+use Rattle.footpaths.specs.declared.Place.{Place}
+use Rattle.footpaths.specs.Places.{placeOf}
+use Rattle.footpaths.proofs.Loops.{nowhere-none, at-some}
+use Rattle.timetable.specs.Places.{faultAs, fiveLengths, shortPlace}
 use Rattle.timetable.specs.Needed.{Full as FullTables}
-use Rattle.timetable.specs.declared.Place.{Place}
 use Rattle.timetable.specs.declared.Fault.{Fault}
+use Rattle.sending.specs.Puts.{Puts, Writable}
 use Rattle.feed.specs.State.{Full, BodyRoom, Leaves}
-use Rattle.feed.specs.Writing.{Puts, Writable, tablesFault, Sends}
+use Rattle.feed.specs.Writing.{tablesFault, Sends}
 use Rattle.feed.proofs.Top.{length-bounds}
 use Rattle.feed.proofs.Judge.{refused-some, unbroken-none}
 
 -- ---- 6
-
-at-some : (o : Option ℕ) (k : ℕ) → Place.At k ≡ placeOf o → o ≡ some k
-at-some none k e = let z : _≡_ {A = ℕ} 0 1 = cc in absurd (omega arith)
-at-some (some i) k e = let q : k ≡ i = cc in λ j. some (sym q j)
-
-nowhere-none : (o : Option ℕ) → Place.Nowhere ≡ placeOf o → o ≡ none
-nowhere-none none e = refl
-nowhere-none (some i) e = let z : _≡_ {A = ℕ} 0 1 = cc in absurd (omega arith)
 
 refused-none : (n : ℕ) (o : Option ℕ) → refusedBy n o ≡ none → o ≡ none
 unfolding refusedBy

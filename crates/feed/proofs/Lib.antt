@@ -6,9 +6,6 @@ pub mod Route
 pub mod Walk
 pub mod Records
 pub mod Top
-pub mod Sent
-pub mod Put
-pub mod Feed
 pub mod Judge
 pub mod Answers
 pub mod One

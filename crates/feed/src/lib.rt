@@ -9,22 +9,20 @@ ghost use Rattle.feed.specs.State.{Leaves};
 ghost use Rattle.feed.specs.Writing.{tablesFault, Sends};
 
 mod body;
-mod bytes;
 mod routes;
 mod standing;
 mod walks;
-mod writing;
 
 use crate::body::length_fits;
 use crate::body::read_body;
 use crate::body::sum_fits;
-use crate::writing::put_feed;
-use crate::writing::size_of;
+use footpaths::Place;
 use paper::Heads;
 use paper::Reading;
 use paper::Writing;
+use sending::put_feed;
+use sending::size_of;
 use timetable::Fault;
-use timetable::Place;
 use timetable::fault_of;
 use timetable::short_table;
 

@@ -13,11 +13,12 @@ use Rattle.laws.proofs.Below.{Passed, passed-none, passed-more, sumBelow-next}
 use Rattle.paper.specs.Timetable.{Tables, stopOf, nOf, mOf, firstPosition, firstEvent, positionsTo, tripsTo, eventsTo}
 use Rattle.paper.specs.Rules.{lowestOf, counted, routeBroken, stopBroken}
 use Rattle.paper.proofs.Places.{Counted, route-right}
-use Rattle.timetable.specs.declared.Place.{Place}
+use Rattle.footpaths.specs.declared.Place.{Place}
+use Rattle.footpaths.specs.Places.{placeOf}
+use Rattle.footpaths.proofs.Loops.{at-lowest, no-lowest}
 use Rattle.timetable.specs.declared.Totals.{Totals}
-use Rattle.timetable.specs.Places.{placeOf, ofRoutes, totalsOf}
+use Rattle.timetable.specs.Places.{ofRoutes, totalsOf}
 use Rattle.timetable.specs.Needed.{Before, Laid}
-use Rattle.timetable.proofs.Loops.{at-lowest, no-lowest}
 
 -- the counts of one route are small
 pub record Small (n m : ℕ) : Type 0 where

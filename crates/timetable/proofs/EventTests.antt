@@ -14,8 +14,9 @@ use Rattle.laws.proofs.Checking.{not-ltb, not-leb}
 use Rattle.laws.proofs.Found.{Nothing, nothing-more, given-true, given-false}
 use Rattle.paper.specs.Timetable.{Route, arriveAt, departAt}
 use Rattle.paper.specs.Rules.{timeBroken, overtakes}
-use Rattle.timetable.specs.declared.Place.{Place}
-use Rattle.timetable.specs.Places.{placeOf, timeIn, overtakenIn}
+use Rattle.footpaths.specs.declared.Place.{Place}
+use Rattle.footpaths.specs.Places.{placeOf}
+use Rattle.timetable.specs.Places.{timeIn, overtakenIn}
 use Rattle.timetable.specs.Needed.{InRoute, AtEvent, AtPair}
 use Rattle.timetable.proofs.Loops.{nested-found, nested-next, nested-end}
 

@@ -21,12 +21,13 @@ use Rattle.paper.specs.declared.Checked.{Checked}
 use Rattle.paper.proofs.Lowest.{given-nothing}
 use Rattle.paper.proofs.Places.{HeadsRight, heads-right, walk-right}
 use Rattle.paper.proofs.Checks.{CountsUnbroken, counts-unbroken, routes-right, counts-events, walks-right, walks-rising}
-use Rattle.timetable.specs.declared.Place.{Place}
+use Rattle.footpaths.specs.declared.Place.{Place}
+use Rattle.footpaths.specs.Places.{placeOf, ofWalks}
+use Rattle.footpaths.specs.Walks.{WalksLent, Walked}
+use Rattle.footpaths.proofs.Loops.{nowhere-none, at-some}
 use Rattle.timetable.specs.declared.Fault.{Fault}
-use Rattle.timetable.specs.Places.{placeOf, faultAs, fiveLengths, shortPlace, ofRoutes, ofStops, ofTimes, ofWalks}
+use Rattle.timetable.specs.Places.{faultAs, fiveLengths, shortPlace, ofRoutes, ofStops, ofTimes}
 use Rattle.timetable.specs.Needed.{Full, CountsRight, LimitLent, Laid, TimesLaid}
-use Rattle.timetable.specs.Walks.{WalksLent, Walked}
-use Rattle.timetable.proofs.Loops.{nowhere-none, at-some}
 
 -- ---- one rule, and the rules after it
 

@@ -17,11 +17,12 @@ use Rattle.laws.proofs.Found.{given-false, firstFound-none}
 use Rattle.paper.specs.Timetable.{Route, arriveAt, departAt}
 use Rattle.paper.specs.Rules.{lowestOf, stopBroken, EventTimes, NoOvertaking}
 use Rattle.paper.proofs.Places.{stop-whole, time-whole, order-whole}
-use Rattle.timetable.specs.declared.Place.{Place}
-use Rattle.timetable.specs.Places.{placeOf, ofStops, timesOf, timeIn, overtakenIn}
+use Rattle.footpaths.specs.declared.Place.{Place}
+use Rattle.footpaths.specs.Places.{placeOf}
+use Rattle.footpaths.proofs.Loops.{no-lowest}
+use Rattle.timetable.specs.Places.{ofStops, timesOf, timeIn, overtakenIn}
 use Rattle.timetable.specs.Needed.{InRoute}
 use Rattle.timetable.specs.Folds.{StopsTold, InTrip, TripRight, TripTold, TimesTold, OrderTold}
-use Rattle.timetable.proofs.Loops.{no-lowest}
 use Rattle.timetable.proofs.EventTests.{timeAt, time-end, overtakenAt, overtaken-end}
 
 -- ---- 7

@@ -3,7 +3,5 @@ pub mod Loops
 pub mod CountTests
 pub mod EventTests
 pub mod Folds
-pub mod WalkTests
 pub mod Routes
-pub mod Closure
 pub mod Faults

@@ -12,10 +12,11 @@ use Rattle.laws.proofs.Lists.{length-part-of}
 use Rattle.laws.proofs.Found.{Nothing, some-same, given-some, firstFound-hit, firstFound-same, firstFound-is, nothing-more, nothing-end}
 use Rattle.paper.specs.Timetable.{Tables, Route, nOf, mOf, firstEvent, routeOf}
 use Rattle.paper.specs.Rules.{timeBroken, overtakes, eventOf, lowestTime, lowestOvertaken}
-use Rattle.timetable.specs.declared.Place.{Place}
-use Rattle.timetable.specs.Places.{placeOf, ofTimes, timesOf, timeIn, overtakenIn}
+use Rattle.footpaths.specs.declared.Place.{Place}
+use Rattle.footpaths.specs.Places.{placeOf}
+use Rattle.footpaths.proofs.Loops.{nowhere-none, at-some}
+use Rattle.timetable.specs.Places.{ofTimes, timesOf, timeIn, overtakenIn}
 use Rattle.timetable.specs.Needed.{InRoute, TimesLaid}
-use Rattle.timetable.proofs.Loops.{nowhere-none, at-some}
 
 -- a place further on by a
 unfoldable pub further : ℕ → Option ℕ → Option ℕ

@@ -1,5 +1,4 @@
 -- What the functions of the rules take and promise.
 pub mod Places
 pub mod Needed
-pub mod Walks
 pub mod Folds

@@ -8,14 +8,8 @@ use Rattle.laws.specs.Below.{given, firstFound}
 use Rattle.paper.specs.Timetable.{Tables, Route, fullSizes, tables, positionsTo, tripsTo}
 use Rattle.paper.specs.Rules.{Refusal, timeBroken, overtakes}
 use Rattle.paper.specs.declared.Heads.{Heads}
-use Rattle.timetable.specs.declared.Place.{Place}
 use Rattle.timetable.specs.declared.Fault.{Fault}
 use Rattle.timetable.specs.declared.Totals.{Totals}
-
--- the lowest place at which a rule is broken, as the code's enum
-abbrev pub placeOf : Option ℕ → Place
-placeOf none = Place.Nowhere
-placeOf (some i) = Place.At i
 
 -- the refusal of the first broken rule, as the code's enum
 abbrev pub faultAs : Option Refusal → Fault
@@ -41,9 +35,6 @@ ofStops stops t2 = record { stops = stops; routes = 0; walks = 0; t1 = []; t2 = 
 
 abbrev pub ofTimes : ℕ → List ℕ → List ℕ → List ℕ → Tables
 ofTimes count t1 t3 t4 = record { stops = 0; routes = count; walks = 0; t1 = t1; t2 = []; t3 = t3; t4 = t4; t5 = [] }
-
-abbrev pub ofWalks : ℕ → ℕ → List ℕ → Tables
-ofWalks stops count t5 = record { stops = stops; routes = 0; walks = count; t1 = []; t2 = []; t3 = []; t4 = []; t5 = t5 }
 
 abbrev pub totalsOf : Tables → Totals
 totalsOf T = record { positions = positionsTo T (T .routes); trips = tripsTo T (T .routes) }

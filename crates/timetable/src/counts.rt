@@ -3,11 +3,12 @@ ghost use mathlib.Core.Path.{_≡_};
 ghost use mathlib.Core.List.{[]};
 ghost use Rattle.paper.specs.Rules.{lowestOf, headsBroken, routeBroken, countRules, firstBroken};
 ghost use Rattle.paper.specs.Work.{limitOf};
-ghost use Rattle.timetable.specs.Places.{placeOf, faultAs, ofCounts, ofRoutes, totalsOf};
+ghost use Rattle.footpaths.specs.Places.{placeOf};
+ghost use Rattle.timetable.specs.Places.{faultAs, ofCounts, ofRoutes, totalsOf};
 ghost use Rattle.timetable.specs.Needed.{CountsLent, LimitLent, Before, RoutesLent, Laid};
 use crate::Fault;
-use crate::Place;
 use crate::Totals;
+use footpaths::Place;
 use paper::Heads;
 
 // 5: the head counts.

@@ -3,10 +3,11 @@ ghost use mathlib.Core.Path.{_≡_};
 ghost use Prim.Native.Nat.{_≤_};
 ghost use lib.ListN.{length};
 ghost use Rattle.paper.specs.Rules.{lowestOf, stopBroken, timeBroken, overtakes, lowestTime, lowestOvertaken};
-ghost use Rattle.timetable.specs.Places.{placeOf, ofStops, ofTimes, timesOf, timeIn, overtakenIn};
+ghost use Rattle.footpaths.specs.Places.{placeOf};
+ghost use Rattle.timetable.specs.Places.{ofStops, ofTimes, timesOf, timeIn, overtakenIn};
 ghost use Rattle.timetable.specs.Needed.{TimesLaid, InRoute, AtEvent, AtPair};
 ghost use Rattle.timetable.specs.Folds.{StopsTold, InTrip, TripTold, TimesTold, OrderTold};
-use crate::Place;
+use footpaths::Place;
 
 // 7: whether any position's number is not a stop's. This loop, as those of 8 and 9, leaves nowhere early, so that several places
 // are tested at a time; the lowest is sought only where something is wrong.

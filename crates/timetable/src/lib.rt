@@ -3,12 +3,12 @@ ghost use mathlib.Core.Path.{_≡_};
 ghost use Rattle.paper.specs.Timetable.{lent};
 ghost use Rattle.paper.specs.Rules.{wholeRules, firstBroken, faultOf};
 ghost use Rattle.paper.specs.Reply.{checkOf};
-ghost use Rattle.timetable.specs.Places.{placeOf, faultAs, shortPlace, fiveLengths};
+ghost use Rattle.footpaths.specs.Places.{placeOf};
+ghost use Rattle.timetable.specs.Places.{faultAs, shortPlace, fiveLengths};
 ghost use Rattle.timetable.specs.Needed.{Full, CountsRight};
 
 mod counts;
 mod events;
-mod walks;
 
 use crate::counts::count_fault;
 use crate::counts::limit_of;
@@ -16,16 +16,11 @@ use crate::counts::totals_of;
 use crate::events::lowest_overtaken;
 use crate::events::lowest_stop;
 use crate::events::lowest_time;
-use crate::walks::lowest_open;
-use crate::walks::lowest_walk;
+use footpaths::Place;
+use footpaths::lowest_open;
+use footpaths::lowest_walk;
 use paper::Checked;
 use paper::Heads;
-
-// Where a rule is broken first.
-pub enum Place {
-    At(u32),
-    Nowhere,
-}
 
 // What the first broken rule refuses.
 pub enum Fault {

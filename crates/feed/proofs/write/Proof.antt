@@ -3,7 +3,7 @@ use borrow.Author.Needs.{needs}
 use mathlib.Core.Path.{sym, _∙_}
 use native.Mathlib.Omega.{arith}
 use Rattle.paper.specs.Timetable.{tables}
-use Rattle.feed.proofs.Feed.{size-fits, size-by, size-small}
+use Rattle.sending.proofs.Feed.{size-fits, size-by, size-small}
 use Rattle.feed.proofs.Answers.{sends-refused, writable, sends-long, sends-done}
 use Rattle.feed.proofs.write.Statement.{statement}
 use Rattle.feed.proofs.write.Tie as tie

@@ -3,8 +3,8 @@ use Prim.Native.Nat.{_≤_, _-_}
 use Rattle.laws.proofs.Below.{Passed, passed-none, passed-more}
 use Rattle.paper.specs.Rules.{stopBroken}
 use Rattle.paper.proofs.Places.{stop-whole}
+use Rattle.footpaths.proofs.Loops.{at-lowest, no-lowest}
 use Rattle.timetable.specs.Places.{ofStops}
-use Rattle.timetable.proofs.Loops.{at-lowest, no-lowest}
 use Rattle.timetable.proofs.CountTests.{stop-broken}
 use Rattle.timetable.proofs.Folds.{stop-none}
 use borrow.Author.Needs.{needs}

@@ -1,0 +1,2 @@
+-- What the contracts of `sending` cite.
+pub mod Puts
