@@ -1,37 +1,32 @@
--- What a function below promises of its enum is promised here of the packed number.
-use mathlib.Core.Path.{_≡_, ap, _∙_}
+-- No second number and no second content of a lent table can meet the promises of reading, writing and asking for C and Rust.
+use mathlib.Core.Path.{_≡_, sym, ap, _∙_}
 use mathlib.Core.List.{List}
 use Prim.Native.Nat.{ℕ}
 use Rattle.paper.specs.Timetable.{Tables}
 use Rattle.paper.specs.Reading.{Outcome}
 use Rattle.paper.specs.Reply.{Reply}
-use Rattle.paper.specs.declared.Reading.{Reading}
-use Rattle.paper.specs.declared.Writing.{Writing}
 use Rattle.paper.specs.declared.Answer.{Answer}
-use Rattle.feed.specs.State.{Leaves}
-use Rattle.feed.specs.Writing.{Sends}
-use Rattle.planner.specs.Asked.{Replied}
+use Rattle.feed.proofs.One.{SameRead, one-reading, one-writing}
+use Rattle.planner.proofs.Starred.{Same, one-reply}
 use Rattle.cabinet.specs.Packed.{readingNumber, writingNumber, verdictNumber, entriesAfter, Reads, Writes, Asks}
 
-pub reads : {o : Outcome} {x : Reading} {r : ℕ} {h₀ h p₀ p a₀ a d₀ d g₀ g : List ℕ}
-    → Leaves o x h₀ h p₀ p a₀ a d₀ d g₀ g → r ≡ readingNumber x → Reads o r h₀ h p₀ p a₀ a d₀ d g₀ g
-reads l e = record {
-  answer = e ∙ ap readingNumber (l .answer);
-  routes = l .routes;
-  positions = l .positions;
-  arrivals = l .arrivals;
-  departures = l .departures;
-  walks = l .walks;
-}
+pub one-read : {o : Outcome} {r s : ℕ} {h₀ h i p₀ p q a₀ a b d₀ d e g₀ g k : List ℕ}
+    → (x : Reads o r h₀ h p₀ p a₀ a d₀ d g₀ g) (y : Reads o s h₀ i p₀ q a₀ b d₀ e g₀ k)
+    → (r ≡ s) × SameRead (x .reading) (y .reading) h i p q a b d e g k
+one-read x y =
+    let one = one-reading (x .leaves) (y .leaves) in
+    (x .number ∙ ap readingNumber (one .answer) ∙ sym (y .number), one)
 
-pub writes : {T : Tables} {x : Writing} {r : ℕ} {out₀ out : List ℕ} → Sends T x out₀ out → r ≡ writingNumber x → Writes T r out₀ out
-writes s e = record { answer = e ∙ ap writingNumber (s .answer); out-is = s .out }
+pub one-write : {T : Tables} {r s : ℕ} {d₀ d e : List ℕ} → Writes T r d₀ d → Writes T s d₀ e → (r ≡ s) × (d ≡ e)
+one-write x y =
+    let one = one-writing (x .sends) (y .sends) in
+    (x .number ∙ ap writingNumber (one .0) ∙ sym (y .number), one .1)
 
-pub asks : {x : Reply} {a : Answer} {r : ℕ} {labels legs d₀ d : List ℕ}
-    → Replied x a labels legs → r ≡ verdictNumber (a .verdict) → d ≡ entriesAfter (a .count) (a .entries) d₀ → Asks x r labels legs d₀ d
-asks {d₀} p e s = record {
-  answer = e ∙ ap (λ (y : Answer). verdictNumber (y .verdict)) (p .answer-is);
-  labels-are = p .labels-are;
-  legs-are = p .legs-are;
-  entries-are = s ∙ ap (λ (y : Answer). entriesAfter (y .count) (y .entries) d₀) (p .answer-is);
-}
+pub one-ask : {x : Reply} {r s : ℕ} {labels labels′ legs legs′ d₀ d e : List ℕ}
+    → (a : Asks x r labels legs d₀ d) (b : Asks x s labels′ legs′ d₀ e)
+    → (r ≡ s) × ((d ≡ e) × Same (a .answer) (b .answer) labels labels′ legs legs′)
+one-ask {d₀} a b =
+    let one = one-reply (a .replied) (b .replied) in (
+      a .number ∙ ap (λ (y : Answer). verdictNumber (y .verdict)) (one .answer) ∙ sym (b .number),
+      (a .entries-are ∙ ap (λ (y : Answer). entriesAfter (y .count) (y .entries) d₀) (one .answer) ∙ sym (b .entries-are), one),
+    )

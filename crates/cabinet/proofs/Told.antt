@@ -7,14 +7,14 @@ use Rattle.laws.specs.Lists.{pieces}
 use Rattle.paper.specs.Rules.{Refusal}
 use Rattle.paper.specs.Reply.{refused}
 use Rattle.paper.specs.declared.Reading.{Reading}
-use Rattle.cabinet.specs.Packed.{packed, headsOf, readingNumber, entryNumbers}
+use Rattle.cabinet.specs.Packed.{packed, headsBy, readingNumber, entryNumbers}
 
 pub packed-told : (n₁ p₁ n₂ p₂ : ℕ) → p₁ < 4294967296 → p₂ < 4294967296 → packed n₁ p₁ ≡ packed n₂ p₂ → (n₁ ≡ n₂) × (p₁ ≡ p₂)
 packed-told n₁ p₁ n₂ p₂ l₁ l₂ e = (omega arith, omega arith)
 
 pub heads-told :
     (s₁ r₁ w₁ s₂ r₂ w₂ : ℕ) → s₁ < 1024 → s₂ < 1024 → r₁ < 128 → r₂ < 128
-    → readingNumber (Reading.Done (headsOf s₁ r₁ w₁)) ≡ readingNumber (Reading.Done (headsOf s₂ r₂ w₂))
+    → readingNumber (Reading.Done (headsBy s₁ r₁ w₁)) ≡ readingNumber (Reading.Done (headsBy s₂ r₂ w₂))
     → (s₁ ≡ s₂) × ((r₁ ≡ r₂) × (w₁ ≡ w₂))
 heads-told s₁ r₁ w₁ s₂ r₂ w₂ a₁ a₂ b₁ b₂ e = (omega arith, (omega arith, omega arith))
 

@@ -7,8 +7,8 @@ use lib.Dec.{ltb}
 use lib.ListN.{length, getD}
 use Rattle.laws.specs.Lists.{over, pieces}
 use Rattle.paper.specs.Timetable.{Tables}
-use Rattle.paper.specs.Reading.{Outcome, after}
-use Rattle.paper.specs.Reply.{readingOf, writeOf, outAfter, zeroEntry, Reply}
+use Rattle.paper.specs.Reading.{Outcome}
+use Rattle.paper.specs.Reply.{zeroEntry, Reply}
 use Rattle.paper.specs.declared.Heads.{Heads}
 use Rattle.paper.specs.declared.Checked.{Checked}
 use Rattle.paper.specs.declared.Reading.{Reading}
@@ -16,12 +16,16 @@ use Rattle.paper.specs.declared.Writing.{Writing}
 use Rattle.paper.specs.declared.Question.{Question}
 use Rattle.paper.specs.declared.Entry.{Entry}
 use Rattle.paper.specs.declared.Verdict.{Verdict}
+use Rattle.paper.specs.declared.Answer.{Answer}
+use Rattle.feed.specs.State.{Leaves}
+use Rattle.feed.specs.Writing.{Sends}
+use Rattle.planner.specs.Asked.{Replied}
 
-abbrev pub headsOf : ℕ → ℕ → ℕ → Heads
-headsOf stops routes walks = record { stops = stops; routes = routes; walks = walks }
+abbrev pub headsBy : ℕ → ℕ → ℕ → Heads
+headsBy stops routes walks = record { stops = stops; routes = routes; walks = walks }
 
-abbrev pub questionOf : ℕ → ℕ → ℕ → ℕ → ℕ → Question
-questionOf start target time limit budget = record { start = start; target = target; time = time; limit = limit; budget = budget }
+abbrev pub questionBy : ℕ → ℕ → ℕ → ℕ → ℕ → Question
+questionBy start target time limit budget = record { start = start; target = target; time = time; limit = limit; budget = budget }
 
 -- ---- an answer as one number: a refusal's number stands above the low 32 bits, where its place stands, or else a count
 
@@ -57,22 +61,20 @@ entryNumbers count es = count ∷ pieces 9 (λ i. pairOf (getD es i zeroEntry))
 unfoldable pub entriesAfter : ℕ → List Entry → List ℕ → List ℕ
 entriesAfter count es d = cond (ltb (length d) 19) d (over (entryNumbers count es) d)
 
--- ---- what each call leaves: the number, and each lent table at exit
+-- ---- what each call leaves: of some answer what `read`, `write` and `ask` promise, and that answer's number
 
 pub record Reads (o : Outcome) (r : ℕ) (h₀ h p₀ p a₀ a d₀ d g₀ g : List ℕ) : Type 0 where
-  pub answer : r ≡ readingNumber (readingOf o)
-  pub routes : h ≡ after 256 (λ T. T .t1) o h₀
-  pub positions : p ≡ after 2048 (λ T. T .t2) o p₀
-  pub arrivals : a ≡ after 2048 (λ T. T .t3) o a₀
-  pub departures : d ≡ after 2048 (λ T. T .t4) o d₀
-  pub walks : g ≡ after 1536 (λ T. T .t5) o g₀
+  pub reading : Reading
+  pub leaves : Leaves o reading h₀ h p₀ p a₀ a d₀ d g₀ g
+  pub number : r ≡ readingNumber reading
 
 pub record Writes (T : Tables) (r : ℕ) (out₀ out : List ℕ) : Type 0 where
-  pub answer : r ≡ writingNumber (writeOf T (length out₀))
-  pub out-is : out ≡ outAfter T out₀
+  pub writing : Writing
+  pub sends : Sends T writing out₀ out
+  pub number : r ≡ writingNumber writing
 
 pub record Asks (x : Reply) (r : ℕ) (labels legs entries₀ entries : List ℕ) : Type 0 where
-  pub answer : r ≡ verdictNumber (x .answer .verdict)
-  pub labels-are : labels ≡ x .labels
-  pub legs-are : legs ≡ x .legs
-  pub entries-are : entries ≡ entriesAfter (x .answer .count) (x .answer .entries) entries₀
+  pub answer : Answer
+  pub replied : Replied x answer labels legs
+  pub number : r ≡ verdictNumber (answer .verdict)
+  pub entries-are : entries ≡ entriesAfter (answer .count) (answer .entries) entries₀

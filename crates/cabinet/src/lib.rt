@@ -4,7 +4,7 @@ ghost use mathlib.Core.List.{[], _∷_};
 ghost use lib.ListN.{length};
 ghost use Rattle.paper.specs.Timetable.{lent};
 ghost use Rattle.paper.specs.Reply.{checkOf, readInto, replyOf};
-ghost use Rattle.cabinet.specs.Packed.{headsOf, questionOf, packed, checkedNumber, readingNumber, writingNumber, verdictNumber, entriesAfter, Reads, Writes, Asks};
+ghost use Rattle.cabinet.specs.Packed.{headsBy, questionBy, packed, checkedNumber, readingNumber, writingNumber, verdictNumber, entriesAfter, Reads, Writes, Asks};
 use paper::Checked;
 use paper::Entry;
 use paper::Heads;
@@ -91,7 +91,7 @@ pub extern "C" fn pospolarku_check(
     departures: &[u32],
     walks: &[u32],
 ) -> u64
-    ensures { λ r. ⌜ r ≡ checkedNumber (checkOf (lent (headsOf stops «route_count» «walk_count») (routes .entry) (positions .entry) (arrivals .entry) (departures .entry) (walks .entry))) ⌝ }
+    ensures { λ r. ⌜ r ≡ checkedNumber (checkOf (lent (headsBy stops «route_count» «walk_count») (routes .entry) (positions .entry) (arrivals .entry) (departures .entry) (walks .entry))) ⌝ }
 {
     let heads = Heads {
         stops: stops,
@@ -129,7 +129,7 @@ pub extern "C" fn pospolarku_write(
     walks: &[u32],
     out: &mut [u8],
 ) -> u64
-    ensures { λ r. ⌜ Writes (lent (headsOf stops «route_count» «walk_count») (routes .entry) (positions .entry) (arrivals .entry) (departures .entry) (walks .entry)) r (now (out .entry)) (now (out .exit)) ⌝ }
+    ensures { λ r. ⌜ Writes (lent (headsBy stops «route_count» «walk_count») (routes .entry) (positions .entry) (arrivals .entry) (departures .entry) (walks .entry)) r (now (out .entry)) (now (out .exit)) ⌝ }
 {
     let heads = Heads {
         stops: stops,
@@ -159,7 +159,7 @@ pub extern "C" fn pospolarku_ask(
     budget: u32,
     entries: &mut [u32],
 ) -> u64
-    ensures { λ r. ⌜ Asks (replyOf (lent (headsOf stops «route_count» «walk_count») (routes .entry) (positions .entry) (arrivals .entry) (departures .entry) (walks .entry)) (now (labels .entry)) (now (legs .entry)) (questionOf start target time limit budget)) r (now (labels .exit)) (now (legs .exit)) (now (entries .entry)) (now (entries .exit)) ⌝ }
+    ensures { λ r. ⌜ Asks (replyOf (lent (headsBy stops «route_count» «walk_count») (routes .entry) (positions .entry) (arrivals .entry) (departures .entry) (walks .entry)) (now (labels .entry)) (now (legs .entry)) (questionBy start target time limit budget)) r (now (labels .exit)) (now (legs .exit)) (now (entries .entry)) (now (entries .exit)) ⌝ }
 {
     let heads = Heads {
         stops: stops,

@@ -1,5 +1,4 @@
 -- `cabinet::pospolarku_ask` meets its contract, from that of `planner::ask`.
-use Rattle.cabinet.proofs.Answers.{asks}
 use borrow.Author.Needs.{needs}
 use Rattle.cabinet.proofs.pospolarku_ask.Statement.{statement}
 use Rattle.cabinet.proofs.pospolarku_ask.Tie as tie
@@ -23,7 +22,12 @@ same-length-3 : tie.Need-same-length-3
 same-length-3 c = search needs
 
 returns : tie.Need-returns
-returns c = asks (c .before .before .before .before .before .before .before .before .before .before .ask .ensures) (c .verdict-number .ensures) (c .before .before .before .put-entries .ensures)
+returns c = record {
+  answer = _;
+  replied = c .before .before .before .before .before .before .before .before .before .before .ask .ensures;
+  number = c .verdict-number .ensures;
+  entries-are = c .before .before .before .put-entries .ensures;
+}
 
 pub pospolarku-ask-spec : {M : Type 1} → statement M
 pospolarku-ask-spec =

@@ -1,5 +1,4 @@
 -- `cabinet::pospolarku_read` meets its contract, from that of `feed::read`.
-use Rattle.cabinet.proofs.Answers.{reads}
 use borrow.Author.Needs.{needs}
 use Rattle.cabinet.proofs.pospolarku_read.Statement.{statement}
 use Rattle.cabinet.proofs.pospolarku_read.Tie as tie
@@ -26,7 +25,11 @@ same-length-5 : tie.Need-same-length-5
 same-length-5 c = search needs
 
 returns : tie.Need-returns
-returns c = reads (c .before .before .before .before .before .before .before .before .before .before .before .read .ensures) (c .reading-number .ensures)
+returns c = record {
+  reading = _;
+  leaves = c .before .before .before .before .before .before .before .before .before .before .before .read .ensures;
+  number = c .reading-number .ensures;
+}
 
 pub pospolarku-read-spec : {M : Type 1} → statement M
 pospolarku-read-spec =

@@ -1,5 +1,4 @@
 -- `cabinet::pospolarku_write` meets its contract, from that of `feed::write`.
-use Rattle.cabinet.proofs.Answers.{writes}
 use borrow.Author.Needs.{needs}
 use Rattle.cabinet.proofs.pospolarku_write.Statement.{statement}
 use Rattle.cabinet.proofs.pospolarku_write.Tie as tie
@@ -14,7 +13,7 @@ same-length : tie.Need-same-length
 same-length c = search needs
 
 returns : tie.Need-returns
-returns c = writes (c .before .before .before .write .ensures) (c .writing-number .ensures)
+returns c = record { writing = _; sends = c .before .before .before .write .ensures; number = c .writing-number .ensures }
 
 pub pospolarku-write-spec : {M : Type 1} → statement M
 pospolarku-write-spec =
