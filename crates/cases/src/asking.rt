@@ -3,7 +3,7 @@ use crate::tables::KEPT;
 use crate::tables::print_labels;
 use crate::tables::print_refused;
 use crate::tables::print_rest;
-use dialogue::Printed;
+use answer_lines::Printed;
 use paper::Answer;
 use paper::Heads;
 use paper::Question;
@@ -16,7 +16,7 @@ fn print_first(bytes: &[u8], length: usize) {
 }
 
 fn print_lines(answer: Answer, legs: &[u32], out: &mut [u8]) {
-    if let Printed::Done(length) = dialogue::render(answer, legs, out) {
+    if let Printed::Done(length) = answer_lines::render(answer, legs, out) {
         print_first(out, length);
     }
 }

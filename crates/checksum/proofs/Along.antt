@@ -1,12 +1,13 @@
 -- The sum's loop: what is summed so far, and then the bytes left, make the whole sum.
-use mathlib.Core.Path.{_≡_, refl, sym, _∙_}
-use mathlib.Core.List.{List, [], _∷_}
-use Prim.Native.Nat.{ℕ, zero, suc, _+_, _-_, _≤_}
+use mathlib.Core.Path.{_≡_, refl, sym, ap, _∙_}
+use mathlib.Core.List.{List}
+use Prim.Native.Nat.{ℕ, _+_, _-_, _≤_}
 use native.Mathlib.Omega.{arith}
-use lib.ListN.{length, take, drop, length-take, length-drop}
+use lib.ListN.{length, take, drop, take-append-drop, length-take, length-drop}
 use lib.Seq.{drop-drop, take-all}
 use lib.Dec.{lit<}
-use Rattle.paper.specs.Feed.{fletcherStep, fletcherFrom, fletcherOf, zeroSum}
+use Rattle.paper.proofs.InParts.{fletcher-append}
+use Rattle.paper.specs.Feed.{fletcherFrom, fletcherOf, zeroSum}
 use Rattle.paper.specs.declared.Sum.{Sum}
 use Rattle.checksum.specs.Small.{Small, Is}
 use Rattle.checksum.specs.Raw.{Block}
@@ -15,13 +16,6 @@ pub record Along (bytes : List ℕ) (s : Sum) (at : ℕ) : Type 0 where
   pub within : at ≤ length bytes
   pub small : Small s
   pub left : fletcherFrom s (drop at bytes) ≡ fletcherOf bytes
-
--- a block, and then what follows it
-in-two : (n : ℕ) (bytes : List ℕ) (s : Sum) → fletcherFrom (fletcherFrom s (take n bytes)) (drop n bytes) ≡ fletcherFrom s bytes
-unfolding fletcherFrom
-in-two zero bytes s = refl
-in-two (suc n) [] s = refl
-in-two (suc n) (b ∷ bs) s = in-two n bs (fletcherStep s b)
 
 pub along-start : (bytes : List ℕ) → Along bytes zeroSum 0
 unfolding fletcherOf
@@ -37,7 +31,9 @@ pub along-step : (bytes : List ℕ) {s r : Sum} {at : ℕ} → Along bytes s at 
 along-step bytes {s} {r} {at} h l e =
     let k : at + 4096 - at ≡ 4096 = omega arith in
     let t : r ≡ fletcherFrom s (take 4096 (drop at bytes)) = rw k at (e .is) in
-    record { within = l; small = e .small; left = rw (t, sym (drop-drop 4096 at bytes)) (in-two 4096 (drop at bytes) s ∙ h .left) }
+    let u : fletcherFrom (fletcherFrom s (take 4096 (drop at bytes))) (drop 4096 (drop at bytes)) ≡ fletcherFrom s (drop at bytes)
+    = sym (fletcher-append (take 4096 (drop at bytes)) (drop 4096 (drop at bytes)) s) ∙ ap (fletcherFrom s) (take-append-drop 4096 (drop at bytes)) in
+    record { within = l; small = e .small; left = rw (t, sym (drop-drop 4096 at bytes)) (u ∙ h .left) }
 
 pub along-last : (bytes : List ℕ) {s : Sum} {at : ℕ} → Along bytes s at → length bytes - at ≤ 4096 → Block s (take (length bytes - at) (drop at bytes))
 along-last bytes {s} {at} h l = some-block bytes (length bytes - at) h l

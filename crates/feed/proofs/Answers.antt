@@ -3,41 +3,36 @@ use mathlib.Core.Path.{_≡_, refl, sym, ap, _∙_}
 use mathlib.Core.Bool.{true, false}
 use mathlib.Core.List.{List}
 use mathlib.Core.Option.{Option, none, some}
-use Prim.Native.Nat.{ℕ, _*_, _-_, _≤_, _<_}
-use native.Mathlib.Nat.{mul-le-mul-left, mul-one}
+use Prim.Native.Nat.{ℕ, _-_, _≤_, _<_}
 use native.Mathlib.Omega.{arith}
 use lib.ListN.{length}
 use borrow.Author.Tests.{ltb-false, lt-ltb, le-ltb}
 use Rattle.laws.specs.Below.{orElse}
-use Rattle.laws.proofs.Found.{orElse-none, orElse-some, given-true, given-false, firstFound-never, some-none}
-use Rattle.laws.proofs.Below.{sumBelow-le}
-use Rattle.paper.specs.Timetable.{Tables, nOf, mOf, positionsTo, eventsTo}
-use Rattle.paper.specs.Rules.{Refusal, refusedBy, faultOf, Sound}
+use Rattle.laws.proofs.Found.{orElse-none, orElse-some, given-true, given-false, firstFound-never}
+use Rattle.paper.specs.Timetable.{Tables}
+use Rattle.paper.specs.Rules.{Refusal, refusedBy, faultOf, Fit}
 use Rattle.paper.specs.Feed.{sizeOf, feedOf}
 use Rattle.paper.specs.Reading.{Untouched, lengthRight, sumRight, bodyOf, readOf}
 use Rattle.paper.specs.Reply.{refusal, shortTable, lengthsOf, readInto, outShort, writtenAs, writeFault, writeOf, outUnless, outAfter}
 use Rattle.paper.specs.declared.Reading.{Reading}
 use Rattle.paper.specs.declared.Writing.{Writing}
-use Rattle.paper.proofs.Checks.{sound-of}
+use Rattle.paper.proofs.Checks.{refused-none, sound-of}
 use Rattle.paper.proofs.Lowest.{given-nothing}
-use Rattle.footpaths.specs.declared.Place.{Place}
-use Rattle.footpaths.specs.Places.{placeOf}
-use Rattle.footpaths.proofs.Loops.{nowhere-none, at-some}
+use Rattle.places.specs.declared.Place.{Place}
+use Rattle.places.specs.Place.{placeOf}
+use Rattle.places.proofs.Lowest.{nowhere-none, at-some}
 use Rattle.timetable.specs.Places.{faultAs, fiveLengths, shortPlace}
 use Rattle.timetable.specs.Needed.{Full as FullTables}
 use Rattle.timetable.specs.declared.Fault.{Fault}
-use Rattle.sending.specs.Puts.{Puts, Writable}
-use Rattle.feed.specs.State.{Full, BodyRoom, Leaves}
+use Rattle.sending.specs.Puts.{Puts}
+use Rattle.records.specs.State.{Full, BodyRoom}
+use Rattle.feed.specs.State.{Leaves}
 use Rattle.feed.specs.Writing.{tablesFault, Sends}
 use Rattle.feed.proofs.Top.{length-bounds}
-use Rattle.feed.proofs.Judge.{refused-some, unbroken-none}
+use Rattle.timetable.proofs.Faults.{unbroken-none, refused-some}
+use Rattle.laws.proofs.Checking.{orElse-nothing}
 
 -- ---- 6
-
-refused-none : (n : ℕ) (o : Option ℕ) → refusedBy n o ≡ none → o ≡ none
-unfolding refusedBy
-refused-none n none e = refl
-refused-none n (some p) e = absurd (some-none refl e)
 
 pub short-some : (ls : List ℕ) (k : ℕ) → Place.At k ≡ placeOf (shortPlace ls) → shortTable ls ≡ some (refusal 6 k)
 unfolding shortTable shortPlace refusedBy
@@ -93,22 +88,10 @@ body-room {f} {h} {p} {a} {d} {g} l e =
 
 -- ---- writing
 
--- positions are no more than events, since each route has a trip
-sound-positions : (T : Tables) → Sound T → positionsTo T (T .routes) ≤ eventsTo T (T .routes)
-unfolding positionsTo eventsTo
-sound-positions T s =
-    sumBelow-le (T .routes) (nOf T) (λ r. nOf T r * mOf T r)
-    (λ r l. let u : nOf T r * 1 ≤ nOf T r * mOf T r = mul-le-mul-left (nOf T r) (s .route r l .m≥) in omega (arith, mul-one (nOf T r)))
-
 or-assoc : {A : Type 0} (x y z : Option A) → orElse x (orElse y z) ≡ orElse (orElse x y) z
 unfolding orElse
 or-assoc none y z = refl
 or-assoc (some a) y z = refl
-
-or-nothing : {A : Type 0} (x y : Option A) → orElse x y ≡ none → (x ≡ none) × (y ≡ none)
-unfolding orElse
-or-nothing none y e = (refl, e)
-or-nothing (some a) y e = absurd (some-none refl e)
 
 module _ (T : Tables) where
   -- ---- 6, then the rules
@@ -163,18 +146,17 @@ module _ (T : Tables) where
           out = p .is ∙ sym (ap (λ (z : Option Refusal). outUnless z T d) o);
         }
 
-    -- a timetable that no rule refuses can be written
-    pub writable : Writable T
+    -- a timetable that no rule refuses is sound, in tables of full size
+    pub fit : Fit T
     unfolding tablesFault
-    writable =
-        let b = or-nothing (shortTable (lengthsOf T)) (faultOf T) unbroken in
+    fit =
+        let b = orElse-nothing (shortTable (lengthsOf T)) (faultOf T) unbroken in
         let u = all-full (T .t1) (T .t2) (T .t3) (T .t4) (T .t5) (b .0) in
-        let s = sound-of T (b .1) in
         record {
-          sound = s;
-          rows = omega (arith, s .routes≤, u .long1);
-          positions = omega (arith, sound-positions T s, s .events≤, u .long2);
-          arrivals = omega (arith, s .events≤, u .long3);
-          departures = omega (arith, s .events≤, u .long4);
-          walks = omega (arith, s .walks≤, u .long5);
+          sound = sound-of T (b .1);
+          routes-room = u .long1;
+          positions-room = u .long2;
+          arrivals-room = u .long3;
+          departures-room = u .long4;
+          walks-room = u .long5;
         }

@@ -2,8 +2,9 @@
 use mathlib.Core.Path.{_≡_, ap, _∙_}
 use mathlib.Core.Bool.{true, false}
 use mathlib.Core.List.{List, _++_}
-use Prim.Native.Nat.{ℕ, _-_, _≤_}
-use lib.ListN.{length, take, drop, replicate, length-replicate}
+use Prim.Native.Nat.{ℕ, _+_, _-_, _≤_}
+use native.Mathlib.Omega.{arith}
+use lib.ListN.{length, take, drop, replicate, length-append, length-replicate}
 use lib.Seq.{drop-at}
 use lib.Dec.{eqb, leb}
 use borrow.Author.Tests.{eq-eqb, ne-eqb, leb-true}
@@ -13,7 +14,7 @@ use Rattle.laws.proofs.Lists.{drop-over}
 use Rattle.paper.specs.Feed.{fletcherOf}
 use Rattle.paper.specs.Reading.{lengthRight, sumRight, cleared}
 use Rattle.paper.specs.declared.Sum.{Sum}
-use Rattle.feed.specs.State.{Fills}
+use Rattle.records.specs.State.{Fills}
 
 -- ---- a table that is cleared, filled and cleared again
 
@@ -22,7 +23,18 @@ twice k d₀ {xs} {d₁} e f g =
     let q : drop k (cleared k d₀) ≡ drop k d₀ = drop-at (replicate k 0) (drop k d₀) k (length-replicate k 0) in
     g ∙ ap (λ (r : List ℕ). replicate k 0 ++ r) (ap (drop k) (f .is) ∙ drop-over xs d₁ k (f .fits) ∙ ap (drop k) e ∙ q)
 
+-- a cleared table is as long as before
+pub cleared-long : (k : ℕ) (d₀ : List ℕ) {d : List ℕ} → d ≡ cleared k d₀ → k ≤ length d₀ → k ≤ length d
+cleared-long k d₀ e l =
+    let z : List ℕ = replicate k 0 in
+    let n : length z ≡ k = length-replicate k 0 in
+    omega (arith, ap length e ∙ length-append z (drop k d₀))
+
 -- ---- the sum
+
+-- a byte of the feed, read as a field of the record at 0
+pub from-start : {x : ℕ} (f : List ℕ) (i : ℕ) → x ≡ byte f (0 + i) → x ≡ byte f i
+from-start f i e = let z : 0 + i ≡ i = omega arith in e ∙ (λ j. byte f (z j))
 
 module _ (f : List ℕ) {x : ℕ} {s : Sum}
     (ex : x ≡ byte f (length f - 2)) (es : s ≡ fletcherOf (take (length f - 2) f)) where

@@ -1,29 +1,20 @@
-// All records of a feed, and the order in which they are refused.
+// The body of a feed whose length and sum are right: tables cleared, filled, judged, and cleared again where it is bad.
 ghost use mathlib.Core.Path.{_≡_};
 ghost use Prim.Native.Nat.{_≤_};
 ghost use lib.ListN.{length};
-ghost use Rattle.laws.specs.Fields.{byte, two};
-ghost use Rattle.paper.specs.Reading.{ended, recordsOf, headBad, wholeOf, bodyOf, lengthRight, sumRight, cleared};
-ghost use Rattle.feed.specs.State.{Near4, Full, BodyRoom, HeadRoom, Ended, Cleared, Judged, Leaves};
-use crate::routes::read_routes;
-use crate::standing::byte_at;
-use crate::standing::stands;
-use crate::walks::Foot;
-use crate::walks::read_walks;
+ghost use Rattle.paper.specs.Timetable.{tables};
+ghost use Rattle.paper.specs.Reading.{bodyOf, lengthRight, sumRight, cleared};
+ghost use Rattle.records.specs.State.{Full, BodyRoom};
+ghost use Rattle.feed.specs.State.{headsOf, JudgeRoom, answerOf, Cleared, Judged, Leaves};
 use checksum::fletcher;
-use fields::begins_in;
 use fields::byte_in;
 use fields::two_in;
 use paper::Heads;
 use paper::Reading;
+use records::Last;
+use records::read_whole;
 use timetable::Fault;
 use timetable::whole_fault;
-
-// Where the walk through all records ended, with the refusal's number or 0.
-pub struct Last {
-    pub bad: u32,
-    pub at: usize,
-}
 
 // The first k of d become 0.
 fn zero(d: &mut [u32], k: usize)
@@ -55,91 +46,45 @@ fn clear(
     zero(walks, 1536);
 }
 
-// Whether the end record stands at `at` and ends the feed.
-fn ends(f: &[u8], at: usize) -> bool
-    requires { ⌜ Near4 (now f) at ⌝ }
-    ensures { λ r. ⌜ r ≡ ended (now (f .entry)) at ⌝ }
+// The head counts of a feed.
+fn heads_of(f: &[u8]) -> Heads
+    ensures { λ r. ⌜ r ≡ headsOf (now (f .entry)) ⌝ }
 {
-    let n = f.len();
-    if at + 4 == n {
-        return stands(f, n, at, 4, 69, 68);
+    Heads {
+        stops: byte_in(f, 0, 3) + 1,
+        routes: byte_in(f, 0, 4),
+        walks: two_in(f, 0, 5),
     }
-    false
 }
 
-// Routes, walks and the end.
-fn read_records(
+// The answer when the walk through all records ended at l: a bad walk, 7 to 11, or done.
+fn judge(
     f: &[u8],
-    routes: &mut [u32],
-    positions: &mut [u32],
-    arrivals: &mut [u32],
-    departures: &mut [u32],
-    walks: &mut [u32],
-) -> Last
-    requires { ⌜ HeadRoom (now f) (now routes) (now positions) (now arrivals) (now departures) (now walks) ⌝ }
-    ensures { λ r. ⌜ Ended (recordsOf (now (f .entry)) (byte (now (f .entry)) 4) (two (now (f .entry)) 5)) r (now (routes .entry)) (now (routes .exit)) (now (positions .entry)) (now (positions .exit)) (now (arrivals .entry)) (now (arrivals .exit)) (now (departures .entry)) (now (departures .exit)) (now (walks .entry)) (now (walks .exit)) ⌝ }
+    l: Last,
+    routes: &[u32],
+    positions: &[u32],
+    arrivals: &[u32],
+    departures: &[u32],
+    walks: &[u32],
+) -> Reading
+    requires { ⌜ JudgeRoom l (tables (headsOf (now f)) (now routes) (now positions) (now arrivals) (now departures) (now walks)) ⌝ }
+    ensures { λ r. ⌜ r ≡ answerOf l (tables (headsOf (now (f .entry))) (now (routes .entry)) (now (positions .entry)) (now (arrivals .entry)) (now (departures .entry)) (now (walks .entry))) ⌝ }
 {
-    let e = f.len() - 4;
-    let k = byte_in(f, 0, 4) as usize;
-    let w = two_in(f, 0, 5) as usize;
-    let q = read_routes(f, e, k, routes, positions, arrivals, departures);
-    let s = Foot {
-        bad: q.bad,
-        at: q.at,
-        used: 0,
-    };
-    let t = read_walks(f, e, w, s, walks);
-    let bad = t.bad;
-    let at = t.at;
-    if bad != 0 {
-        return Last { bad, at };
+    if l.bad != 0 {
+        return Reading::Refused(l.bad, l.at as u32);
     }
-    if ends(f, at) {
-        return Last { bad: 0, at };
+    let heads = heads_of(f);
+    if let Fault::Refused(number, place) = whole_fault(
+        heads,
+        routes,
+        positions,
+        arrivals,
+        departures,
+        walks,
+    ) {
+        return Reading::Refused(number, place);
     }
-    Last { bad: 3, at }
-}
-
-// The head: 0, or the refusal's number.
-fn head_at(f: &[u8]) -> u32
-    requires { ⌜ 13 ≤ length (now f) ⌝ }
-    ensures { λ r. ⌜ r ≡ headBad (now (f .entry)) ⌝ }
-{
-    if !begins_in(f, 0, 0x5448) {
-        return 3;
-    }
-    if byte_in(f, 0, 2) != 1 {
-        return 4;
-    }
-    if 64 < byte_in(f, 0, 4) {
-        return 5;
-    }
-    if 512 < two_in(f, 0, 5) {
-        return 5;
-    }
-    0
-}
-
-// All records.
-fn read_whole(
-    f: &[u8],
-    routes: &mut [u32],
-    positions: &mut [u32],
-    arrivals: &mut [u32],
-    departures: &mut [u32],
-    walks: &mut [u32],
-) -> Last
-    requires { ⌜ BodyRoom (now f) (now routes) (now positions) (now arrivals) (now departures) (now walks) ⌝ }
-    ensures { λ r. ⌜ Ended (wholeOf (now (f .entry))) r (now (routes .entry)) (now (routes .exit)) (now (positions .entry)) (now (positions .exit)) (now (arrivals .entry)) (now (arrivals .exit)) (now (departures .entry)) (now (departures .exit)) (now (walks .entry)) (now (walks .exit)) ⌝ }
-{
-    let b = head_at(f);
-    if b == 4 {
-        return Last { bad: 4, at: 2 };
-    }
-    if b != 0 {
-        return Last { bad: b, at: 0 };
-    }
-    read_records(f, routes, positions, arrivals, departures, walks)
+    Reading::Done(heads)
 }
 
 // All records, judged by 7 to 11. Where they are bad, the tables are not cleared yet.
@@ -155,27 +100,7 @@ fn fill(
     ensures { λ r. ⌜ Judged (now (f .entry)) r (now (routes .entry)) (now (routes .exit)) (now (positions .entry)) (now (positions .exit)) (now (arrivals .entry)) (now (arrivals .exit)) (now (departures .entry)) (now (departures .exit)) (now (walks .entry)) (now (walks .exit)) ⌝ }
 {
     let l = read_whole(f, routes, positions, arrivals, departures, walks);
-    let bad = l.bad;
-    let at = l.at;
-    if bad != 0 {
-        return Reading::Refused(bad, at as u32);
-    }
-    let heads = Heads {
-        stops: byte_in(f, 0, 3) + 1,
-        routes: byte_in(f, 0, 4),
-        walks: two_in(f, 0, 5),
-    };
-    if let Fault::Refused(number, place) = whole_fault(
-        heads,
-        routes,
-        positions,
-        arrivals,
-        departures,
-        walks,
-    ) {
-        return Reading::Refused(number, place);
-    }
-    Reading::Done(heads)
+    judge(f, l, routes, positions, arrivals, departures, walks)
 }
 
 // The tables are cleared, filled, and cleared again where the feed is bad.
@@ -223,8 +148,8 @@ pub fn sum_fits(f: &[u8]) -> bool
     let s = fletcher(&f[..n - 2]);
     let first = s.first;
     let second = s.second;
-    if byte_at(f, n - 2) == first {
-        return byte_at(f, n - 1) == second;
+    if byte_in(f, 0, n - 2) == first {
+        return byte_in(f, 0, n - 1) == second;
     }
     false
 }

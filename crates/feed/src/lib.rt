@@ -9,17 +9,14 @@ ghost use Rattle.feed.specs.State.{Leaves};
 ghost use Rattle.feed.specs.Writing.{tablesFault, Sends};
 
 mod body;
-mod routes;
-mod standing;
-mod walks;
 
 use crate::body::length_fits;
 use crate::body::read_body;
 use crate::body::sum_fits;
-use footpaths::Place;
 use paper::Heads;
 use paper::Reading;
 use paper::Writing;
+use places::Place;
 use sending::put_feed;
 use sending::size_of;
 use timetable::Fault;

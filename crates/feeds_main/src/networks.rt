@@ -1,4 +1,5 @@
 // Sound networks from a generator's numbers, and the one whose feed is the longest.
+use crate::numbers::POSITIONS;
 use crate::numbers::drawn;
 use crate::numbers::less;
 use crate::numbers::next;
@@ -18,6 +19,12 @@ struct Shape {
     events: u32,
 }
 
+// A network to come.
+struct Size {
+    stops: u32,
+    routes: u32,
+}
+
 // A route to come: its positions, and how many events it may have.
 struct Planned {
     n: u32,
@@ -32,6 +39,9 @@ struct Used {
     trips: u32,
     events: u32,
 }
+
+// The network whose feed is the longest.
+const LONGEST: u32 = 400;
 
 // Few of all, many routes, long routes, many trips.
 fn shape_of(k: u32) -> Shape {
@@ -84,32 +94,45 @@ fn longest_route(r: u32) -> Planned {
     }
 }
 
+fn plan_route(k: u32, r: u32, seed: u32) -> Planned {
+    if k == LONGEST {
+        longest_route(r)
+    } else {
+        draw_route(shape_of(k), seed)
+    }
+}
+
+// A route's row in table 1.
+fn put_route(tables: &mut [u32], used: Used, n: u32, m: u32) {
+    let at = used.routes % 64 * 4;
+    put(tables, at, n);
+    put(tables, at + 1, m);
+    put(tables, at + 2, used.positions);
+    put(tables, at + 3, used.events);
+}
+
 // One route more, with as many trips as its events and the totals allow, if there is one.
-fn add_route(routes: &mut [u32], used: Used, p: Planned) -> Used {
-    let mut u = used;
+fn add_route(tables: &mut [u32], used: Used, p: Planned) -> Used {
     let n = p.n;
-    u.seed = next(next(used.seed));
     if n == 0 {
-        return u;
+        return used;
     }
     let events = smaller(p.events, less(2048, used.events));
     let m = events / n;
     if (m == 0) | (less(512, used.trips) < m) {
-        return u;
+        return used;
     }
-    let at = used.routes % 64 * 4;
-    put(routes, at, n);
-    put(routes, plus(at, 1), m);
-    put(routes, plus(at, 2), used.positions);
-    put(routes, plus(at, 3), used.events);
-    u.routes = plus(used.routes, 1);
-    u.positions = plus(used.positions, n);
-    u.trips = plus(used.trips, m);
-    u.events = plus(used.events, less(events, events % n));
-    u
+    put_route(tables, used, n, m);
+    Used {
+        seed: used.seed,
+        routes: plus(used.routes, 1),
+        positions: plus(used.positions, n),
+        trips: plus(used.trips, m),
+        events: plus(used.events, less(events, events % n)),
+    }
 }
 
-fn put_routes(routes: &mut [u32], longest: bool, shape: Shape, count: u32, seed: u32) -> Used {
+fn put_routes(tables: &mut [u32], k: u32, count: u32, seed: u32) -> Used {
     let mut used = Used {
         seed,
         routes: 0,
@@ -118,61 +141,59 @@ fn put_routes(routes: &mut [u32], longest: bool, shape: Shape, count: u32, seed:
         events: 0,
     };
     for r in 0..count {
-        let p = if longest {
-            longest_route(r)
-        } else {
-            draw_route(shape, used.seed)
-        };
-        used = add_route(routes, used, p);
+        let p = plan_route(k, r, used.seed);
+        used = add_route(tables, used, p);
+        used.seed = next(next(used.seed));
     }
     used
 }
 
-// The answer is the generator's number.
-fn put_stops(positions: &mut [u32], count: u32, stops: u32, seed: u32) -> u32 {
+// The stops of table 2. The answer is the generator's number.
+fn put_stops(tables: &mut [u32], count: u32, stops: u32, seed: u32) -> u32 {
     let mut s = seed;
     for i in 0..count {
         s = next(s);
-        put(positions, i, drawn(s, stops));
+        put(tables, plus(POSITIONS, i), drawn(s, stops));
     }
     s
 }
 
-// Network k, its kind by k; network 400 has the longest feed. Every third has no walks.
-pub fn network(
-    k: u32,
-    routes: &mut [u32],
-    positions: &mut [u32],
-    arrivals: &mut [u32],
-    departures: &mut [u32],
-    walks: &mut [u32],
-) -> Heads {
-    let longest = k == 400;
+// Every third network has no walks. The answer is how many there are.
+fn put_some_walks(tables: &mut [u32], k: u32, stops: u32, seed: u32) -> u32 {
+    if k == LONGEST {
+        return put_most_walks(tables);
+    }
+    if k % 3 == 0 {
+        return 0;
+    }
+    put_walks(tables, stops, seed)
+}
+
+// How many stops there are, and how many routes are tried.
+fn size_of(k: u32, seed: u32) -> Size {
+    if k == LONGEST {
+        return Size {
+            stops: 256,
+            routes: 64,
+        };
+    }
     let shape = shape_of(k);
+    Size {
+        stops: plus(drawn(seed, shape.stops), 1),
+        routes: drawn(next(seed), plus(shape.routes, 1)),
+    }
+}
+
+// Network k, its kind by k, in tables 1 to 5, which stand one after the other.
+pub fn network(k: u32, tables: &mut [u32]) -> Heads {
     let s = next(next(k));
-    let stops = if longest {
-        256
-    } else {
-        plus(drawn(s, shape.stops), 1)
-    };
-    let count = if longest {
-        64
-    } else {
-        drawn(next(s), plus(shape.routes, 1))
-    };
-    let used = put_routes(routes, longest, shape, count, s);
-    let t = put_stops(positions, used.positions, stops, used.seed);
-    let u = put_times(routes, used.routes, used.events, arrivals, departures, t);
-    let w = if longest {
-        put_most_walks(walks)
-    } else if k % 3 == 0 {
-        0
-    } else {
-        put_walks(walks, stops, u)
-    };
+    let size = size_of(k, s);
+    let used = put_routes(tables, k, size.routes, s);
+    let t = put_stops(tables, used.positions, size.stops, used.seed);
+    let u = put_times(tables, used.routes, used.events, t);
     Heads {
-        stops,
+        stops: size.stops,
         routes: used.routes,
-        walks: w,
+        walks: put_some_walks(tables, k, size.stops, u),
     }
 }

@@ -1,4 +1,14 @@
 // Numbers that cannot leave their type: sums, a digest, and a generator that always gives the same numbers.
+
+// Tables 1 to 5 stand one after the other in one table: where tables 2 to 5 begin.
+pub const POSITIONS: u32 = 256;
+
+pub const ARRIVALS: u32 = 2304;
+
+pub const DEPARTURES: u32 = 4352;
+
+pub const WALKS: u32 = 6400;
+
 pub fn plus(a: u32, b: u32) -> u32 {
     std::num::wrapping_add_u32(a, b)
 }

@@ -7,6 +7,8 @@ use crate::numbers::plus;
 use crate::numbers::print;
 use crate::numbers::wide;
 use crate::passing::pass;
+use crate::passing::read_feed;
+use crate::passing::write_of;
 use paper::Heads;
 use paper::Reading;
 use paper::Writing;
@@ -20,32 +22,13 @@ struct Totals {
     differences: u32,
 }
 
-// How many numbers of two tables differ. The largest has 2,048.
+// How many numbers of tables 1 to 5 differ.
 fn differing_numbers(a: &[u32], b: &[u32]) -> u32 {
     let mut count: u32 = 0;
-    for i in 0..2048 {
+    for i in 0..7936 {
         count = plus(count, (get(a, i) != get(b, i)) as u32);
     }
     count
-}
-
-fn differing_tables(
-    routes: &[u32],
-    positions: &[u32],
-    arrivals: &[u32],
-    departures: &[u32],
-    walks: &[u32],
-    routes2: &[u32],
-    positions2: &[u32],
-    arrivals2: &[u32],
-    departures2: &[u32],
-    walks2: &[u32],
-) -> u32 {
-    let a = differing_numbers(routes, routes2);
-    let b = plus(a, differing_numbers(positions, positions2));
-    let c = plus(b, differing_numbers(arrivals, arrivals2));
-    let d = plus(c, differing_numbers(departures, departures2));
-    plus(d, differing_numbers(walks, walks2))
 }
 
 // Whether head counts differ from those of an accepted feed: 0 or 1.
@@ -87,61 +70,21 @@ fn differing_again(feed: &[u8]) -> u32 {
 }
 
 // What differs when the feed of these tables is read into others, which hold 9.
-fn differing_back(
-    heads: Heads,
-    routes: &[u32],
-    positions: &[u32],
-    arrivals: &[u32],
-    departures: &[u32],
-    walks: &[u32],
-    feed: &[u8],
-) -> u32 {
-    let mut routes2: [u32; 256] = [9; 256];
-    let mut positions2: [u32; 2048] = [9; 2048];
-    let mut arrivals2: [u32; 2048] = [9; 2048];
-    let mut departures2: [u32; 2048] = [9; 2048];
-    let mut walks2: [u32; 1536] = [9; 1536];
-    let answer = feed::read(
-        feed,
-        &mut routes2,
-        &mut positions2,
-        &mut arrivals2,
-        &mut departures2,
-        &mut walks2,
-    );
-    let d = differing_tables(
-        routes,
-        positions,
-        arrivals,
-        departures,
-        walks,
-        &routes2,
-        &positions2,
-        &arrivals2,
-        &departures2,
-        &walks2,
-    );
+fn differing_back(heads: Heads, tables: &[u32], feed: &[u8]) -> u32 {
+    let after = read_feed(feed, 0, 9);
+    let answer = after.answer;
+    let d = differing_numbers(tables, &after.tables);
     plus(d, differing_heads(heads, answer))
 }
 
 // The totals with one network more, whose feed is the first `size` bytes.
-fn added(
-    t: Totals,
-    heads: Heads,
-    routes: &[u32],
-    positions: &[u32],
-    arrivals: &[u32],
-    departures: &[u32],
-    walks: &[u32],
-    out: &[u8],
-    size: u32,
-) -> Totals {
+fn added(t: Totals, heads: Heads, tables: &[u32], out: &[u8], size: u32) -> Totals {
     let n = size as usize;
     if out.len() < n {
         return t;
     }
     let feed = &out[..n];
-    let d = differing_back(heads, routes, positions, arrivals, departures, walks, feed);
+    let d = differing_back(heads, tables, feed);
     let e = differing_again(feed);
     Totals {
         routes: plus(t.routes, heads.routes),
@@ -154,40 +97,11 @@ fn added(
 
 // Network k, written and read back. One that is refused has no bytes, and so differs.
 fn trial(k: u32, t: Totals) -> Totals {
-    let mut routes: [u32; 256] = [0; 256];
-    let mut positions: [u32; 2048] = [0; 2048];
-    let mut arrivals: [u32; 2048] = [0; 2048];
-    let mut departures: [u32; 2048] = [0; 2048];
-    let mut walks: [u32; 1536] = [0; 1536];
+    let mut tables: [u32; 7936] = [0; 7936];
     let mut out: [u8; 17869] = [0; 17869];
-    let heads = network(
-        k,
-        &mut routes,
-        &mut positions,
-        &mut arrivals,
-        &mut departures,
-        &mut walks,
-    );
-    let answer = feed::write(
-        heads,
-        &routes,
-        &positions,
-        &arrivals,
-        &departures,
-        &walks,
-        &mut out,
-    );
-    added(
-        t,
-        heads,
-        &routes,
-        &positions,
-        &arrivals,
-        &departures,
-        &walks,
-        &out,
-        size_of(answer),
-    )
+    let heads = network(k, &mut tables);
+    let answer = write_of(heads, tables, &mut out);
+    added(t, heads, &tables, &out, size_of(answer))
 }
 
 // Networks from one number to another.

@@ -1,4 +1,5 @@
 // Walks that are closed by the way they are made: groups of neighbouring stops, in which each member walks to every other one way or both.
+use crate::numbers::WALKS;
 use crate::numbers::drawn;
 use crate::numbers::less;
 use crate::numbers::next;
@@ -29,20 +30,20 @@ fn walked(a: u32, b: u32, way: u32) -> bool {
 }
 
 // The walk from a to b, if there is to be one. The answer is how many walks there are then.
-fn put_walk(walks: &mut [u32], count: u32, a: u32, b: u32, way: u32, seed: u32) -> u32 {
+fn put_walk(tables: &mut [u32], count: u32, a: u32, b: u32, way: u32, seed: u32) -> u32 {
     if !walked(a, b, way) {
         return count;
     }
-    let at = count % 512 * 3;
-    put(walks, at, a);
-    put(walks, plus(at, 1), b);
-    put(walks, plus(at, 2), seconds(a, b, way == 3, seed));
+    let at = WALKS + count % 512 * 3;
+    put(tables, at, a);
+    put(tables, at + 1, b);
+    put(tables, at + 2, seconds(a, b, way == 3, seed));
     plus(count, 1)
 }
 
 // The walks from stop a to the stops from `first` to `end`.
 fn put_walks_from(
-    walks: &mut [u32],
+    tables: &mut [u32],
     count: u32,
     a: u32,
     first: u32,
@@ -52,14 +53,14 @@ fn put_walks_from(
 ) -> u32 {
     let mut w = count;
     for b in first..end {
-        w = put_walk(walks, w, a, b, way, seed);
+        w = put_walk(tables, w, a, b, way, seed);
     }
     w
 }
 
 // The walks of the stops from `low` to `high` to those from `first` to `end`.
 fn put_group(
-    walks: &mut [u32],
+    tables: &mut [u32],
     count: u32,
     low: u32,
     high: u32,
@@ -70,18 +71,18 @@ fn put_group(
 ) -> u32 {
     let mut w = count;
     for a in low..high {
-        w = put_walks_from(walks, w, a, first, end, way, seed);
+        w = put_walks_from(tables, w, a, first, end, way, seed);
     }
     w
 }
 
 // 512 walks, which no other walk follows.
-pub fn put_most_walks(walks: &mut [u32]) -> u32 {
-    put_group(walks, 0, 0, 32, 32, 48, 0, 1)
+pub fn put_most_walks(tables: &mut [u32]) -> u32 {
+    put_group(tables, 0, 0, 32, 32, 48, 0, 1)
 }
 
 // A group of up to 23 stops and then groups of up to 8, as long as there are stops for them and walks for the largest. The answer is how many walks there are.
-pub fn put_walks(walks: &mut [u32], stops: u32, seed: u32) -> u32 {
+pub fn put_walks(tables: &mut [u32], stops: u32, seed: u32) -> u32 {
     let mut w: u32 = 0;
     let mut s = seed;
     let mut first: u32 = 0;
@@ -93,7 +94,7 @@ pub fn put_walks(walks: &mut [u32], stops: u32, seed: u32) -> u32 {
         } else {
             first
         };
-        w = put_group(walks, w, first, end, first, end, drawn(s, 4), s);
+        w = put_group(tables, w, first, end, first, end, drawn(s, 4), s);
         first = end;
         size = plus(drawn(s / 16, 8), 1);
     }

@@ -1,4 +1,5 @@
 -- What the functions' proofs cite.
-pub mod Loops
 pub mod WalkTests
+pub mod Begins
+pub mod Seconds
 pub mod Closure

@@ -1,3 +1,2 @@
 -- What the functions of 10 and 11 take and promise.
-pub mod Places
 pub mod Walks

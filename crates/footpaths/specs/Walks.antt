@@ -1,6 +1,6 @@
 -- What 10 and 11 need, and the two helps by which 11 is quick: where each stop's walks begin, and the seconds from one stop.
 use mathlib.Core.Path.{_≡_}
-use mathlib.Core.List.{List}
+use mathlib.Core.List.{List, []}
 use Prim.Native.Nat.{ℕ, _+_, _≤_, _<_}
 use lib.Dec.{leb}
 use lib.ListN.{length, getD}
@@ -8,6 +8,10 @@ use Rattle.laws.specs.Below.{firstBelow}
 use Rattle.paper.specs.Timetable.{Tables, walkFrom, walkTo, walkSeconds}
 use Rattle.paper.specs.Rules.{WalkRight, Via}
 use Rattle.paper.proofs.Places.{Rising}
+
+-- tables of which 10 and 11 read only the walks
+abbrev pub ofWalks : ℕ → ℕ → List ℕ → Tables
+ofWalks stops count t5 = record { stops = stops; routes = 0; walks = count; t1 = []; t2 = []; t3 = []; t4 = []; t5 = t5 }
 
 -- table 5 and the head counts, before the walks are tested
 pub record WalksLent (T : Tables) : Type 0 where

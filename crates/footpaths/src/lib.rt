@@ -1,14 +1,9 @@
 // 10 and 11: each walk, and closed walks.
 ghost use mathlib.Core.Path.{_≡_};
 ghost use Rattle.paper.specs.Rules.{lowestOf, walkBroken, opens};
-ghost use Rattle.footpaths.specs.Places.{placeOf, ofWalks};
-ghost use Rattle.footpaths.specs.Walks.{WalksLent, AtWalk, Walked, beginOf, BeginsPast, Begins, SecondsFrom, FromStop, OnWalk};
-
-// Where a rule is broken first.
-pub enum Place {
-    At(u32),
-    Nowhere,
-}
+ghost use Rattle.places.specs.Place.{placeOf};
+ghost use Rattle.footpaths.specs.Walks.{ofWalks, WalksLent, AtWalk, Walked, beginOf, BeginsPast, Begins, SecondsFrom, FromStop, OnWalk};
+use places::Place;
 
 // 10: one walk, and that it rises from the walk before it.
 fn walk_broken(stops: u32, count: u32, walks: &[u32], w: u32) -> bool

@@ -23,7 +23,7 @@ use Rattle.paper.proofs.Steps.{label-next, label-rides}
 use Rattle.paper.proofs.Earliest.{length-row, row-in, row-mark}
 use Rattle.paper.proofs.Legs.{Gained, legs-step, legs-length, read-back}
 use Rattle.journeys.specs.ReadBack.{rowIn, stepIn, RidesAfter, legsIn, Leads, here, back, Readable}
-use Rattle.journeys.proofs.Leaves.{label-read}
+use Rattle.steps.proofs.Leaves.{label-read}
 use Rattle.journeys.proofs.Tracing.{legs-in-step}
 
 -- ---- a good question

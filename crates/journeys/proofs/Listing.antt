@@ -1,7 +1,7 @@
 -- The entries and the legs table: what the loop over the rows keeps, and its two kinds of turn.
 use mathlib.Core.Path.{_≡_, refl, sym, ap, ap₂, _∙_}
 use mathlib.Core.Logic.{_≢_}
-use mathlib.Core.Bool.{Bool, true, false, cond, _&&_}
+use mathlib.Core.Bool.{Bool, true, false, cond}
 use mathlib.Core.List.{List, [], _∷_, _++_, append-assoc, append-nil}
 use Prim.Native.Nat.{ℕ, zero, suc, _+_, _*_, _-_, _≤_, _<_}
 use native.Mathlib.Nat.{le-refl}
@@ -15,16 +15,17 @@ use Rattle.laws.specs.Below.{mark, minBelow}
 use Rattle.laws.specs.Lists.{tab, pieces, over}
 use Rattle.laws.proofs.Tests.{by-lt}
 use Rattle.laws.proofs.Below.{minBelow-next}
-use Rattle.laws.proofs.Lists.{length-tab, length-pieces, pieces-same, length-over, over-over}
+use Rattle.laws.proofs.Lists.{length-pieces, pieces-same, length-over, over-over}
 use Rattle.paper.specs.Timetable.{Tables}
 use Rattle.paper.specs.Rows.{label, rowOf}
 use Rattle.paper.specs.Tie.{isEntry, entryOf, entriesBelow, entriesOf, legsOf}
 use Rattle.paper.specs.Reply.{zeroEntry, inNine, legNumbers, legsRow, legsTable}
 use Rattle.paper.specs.declared.Entry.{Entry}
 use Rattle.paper.specs.declared.Question.{Question}
-use Rattle.paper.proofs.Answers.{length-legs}
+use Rattle.paper.proofs.Answers.{length-legs, length-row}
 use Rattle.paper.proofs.Entries.{entry-gained}
-use Rattle.journeys.specs.ReadBack.{legsIn, Traceable, Readable, ReadBack}
+use Rattle.journeys.specs.declared.Listed.{Listed}
+use Rattle.journeys.specs.ReadBack.{legsIn, Traceable, listedAlso, Readable, ReadBack}
 use Rattle.laws.proofs.Runs.{mark-is, over-sets-piece, sets-marks, and-none}
 use Rattle.journeys.proofs.Labelled.{good-of, labels-room, label-at, rides-after, leads-of, legs-same, legs-fit}
 
@@ -40,9 +41,9 @@ module _ (T : Tables) (q : Question) where
   abbrev atTarget : ℕ → ℕ
   atTarget k = label (rowOf T q k) (q .target)
 
-  listed : (k : ℕ) {a b : ℕ} → a ≡ atTarget k → b ≡ minBelow k atTarget → a < b → isEntry T q k ≡ true
+  is-listed : (k : ℕ) {a b : ℕ} → a ≡ atTarget k → b ≡ minBelow k atTarget → a < b → isEntry T q k ≡ true
   unfolding isEntry
-  listed k ea eb l = lt-ltb (atTarget k) (minBelow k atTarget) (omega arith)
+  is-listed k ea eb l = lt-ltb (atTarget k) (minBelow k atTarget) (omega arith)
 
   not-listed : (k : ℕ) {a b : ℕ} → a ≡ atTarget k → b ≡ minBelow k atTarget → b ≤ a → isEntry T q k ≡ false
   unfolding isEntry
@@ -65,20 +66,12 @@ module _ (T : Tables) (q : Question) where
   pub legsBelow : ℕ → List ℕ
   legsBelow k = pieces 8 (rowsBelow k)
 
-  length-row-of : (k : ℕ) → length (legsRow T q k) ≡ 40
-  unfolding legsRow
-  length-row-of k = go (leb k (q .limit) && isEntry T q k)
-    where
-      go : (b : Bool) → length (cond b (tab 40 (λ i. getD (legNumbers (legsOf T q k (q .target))) i mark)) (replicate 40 mark)) ≡ 40
-      go true = length-tab 40 _
-      go false = length-replicate 40 mark
-
   length-rows : (k i : ℕ) → length (rowsBelow k i) ≡ 40
   unfolding rowsBelow
   length-rows k i = go (ltb (suc i) k)
     where
       go : (b : Bool) → length (cond b (legsRow T q (suc i)) (replicate 40 mark)) ≡ 40
-      go true = length-row-of (suc i)
+      go true = length-row T q (suc i)
       go false = length-replicate 40 mark
 
   length-below : (k : ℕ) → length (legsBelow k) ≡ 320
@@ -157,19 +150,19 @@ module _ (T : Tables) (q : Question) where
 -- ---- the loop
 
 -- the rows below k are read back
-pub record Listing (T : Tables) (q : Question) (labels legs₀ legs : List ℕ) (entries : List Entry) (count best k : ℕ) : Type 0 where
+pub record Listing (T : Tables) (q : Question) (labels legs₀ legs : List ℕ) (listed : Listed) (best k : ℕ) : Type 0 where
   pub room : ℕ
   pub ok : Readable T q labels room
   pub few : k ≤ q .limit + 1
-  pub count-is : count ≡ length (entriesBelow T q k)
-  pub entries-are : entries ≡ inNine (entriesBelow T q k)
+  pub count-is : listed .count ≡ length (entriesBelow T q k)
+  pub entries-are : listed .entries ≡ inNine (entriesBelow T q k)
   pub best-is : best ≡ minBelow k (atTarget T q)
-  pub small : count ≤ k
+  pub small : listed .count ≤ k
   pub legs-are : legs ≡ over (legsBelow T q k) legs₀
   pub size : length legs ≡ length legs₀
 
 pub listing-start : {T : Tables} {q : Question} {labels : List ℕ} {room : ℕ} (d legs₀ : List ℕ) → Readable T q labels room → legs₀ ≡ over (replicate 320 mark) d
-    → Listing T q labels legs₀ legs₀ (replicate 9 zeroEntry) 0 4294967295 0
+    → Listing T q labels legs₀ legs₀ (record { count = 0; entries = replicate 9 zeroEntry }) 4294967295 0
 unfolding entriesBelow minBelow
 listing-start {T} {q} {labels} {room} d legs₀ ok e = record {
   room = room;
@@ -186,17 +179,11 @@ listing-start {T} {q} {labels} {room} d legs₀ ok e = record {
   size = refl;
 }
 
-module _ {T : Tables} {q : Question} {labels legs₀ legs : List ℕ} {entries : List Entry} {count best k : ℕ} (f : Listing T q labels legs₀ legs entries count best k) where
+module _ {T : Tables} {q : Question} {labels legs₀ legs : List ℕ} {listed : Listed} {best k : ℕ} (f : Listing T q labels legs₀ legs listed best k) where
   limit≤ : q .limit ≤ 8
   limit≤ = good-of T q (f .ok .good) .limit≤
 
   module _ (l : k ≤ q .limit) where
-    abbrev read : ℕ
-    read = getD labels (k * 256 + q .target) 0
-
-    arrival-is : read ≡ atTarget T q k
-    arrival-is = label-at T q labels (f .ok) k (q .target) l (good-of T q (f .ok .good) .asked .target<)
-
     pub listing-cell : k * 256 + q .target < length labels
     listing-cell =
         let t = good-of T q (f .ok .good) .asked .target< in
@@ -205,68 +192,74 @@ module _ {T : Tables} {q : Question} {labels legs₀ legs : List ℕ} {entries :
     pub listing-few : k ≤ 8
     listing-few = omega (arith, limit≤)
 
-    pub listing-place : count < 9
+    pub listing-place : listed .count < 9
     listing-place = let a = f .small in omega (arith, limit≤)
 
-    module _ (earlier : read < best) where
-      is-entry : isEntry T q k ≡ true
-      is-entry = listed T q k arrival-is (f .best-is) earlier
+    module _ {arrival : ℕ} (at : arrival ≡ getD labels (k * 256 + q .target) 0) where
+      arrival-is : arrival ≡ atTarget T q k
+      arrival-is = at ∙ label-at T q labels (f .ok) k (q .target) l (good-of T q (f .ok .good) .asked .target<)
 
-      pub listing-traceable : Traceable T labels (length legs) k (q .target)
-      listing-traceable = record {
-        fit = f .ok .fit;
-        labels-room = labels-room T q labels (f .ok);
-        legs-room = omega (arith, ap length (f .legs-are) ∙ length-append (legsBelow T q k) _, length-below T q k);
-        few = listing-few;
-        rides = λ j lj. rides-after T q labels (f .ok) j (omega arith);
-        leads = leads-of T q labels (f .ok) k (q .target) l (entry-gained T q k is-entry);
-      }
+      module _ (earlier : arrival < best) where
+        is-entry : isEntry T q k ≡ true
+        is-entry = is-listed T q k arrival-is (f .best-is) earlier
 
-      pub listing-take : {legs′ : List ℕ} → legs′ ≡ sets legs (k * 40 - 40) (legNumbers (legsIn T labels k (q .target)))
-          → Listing T q labels legs₀ legs′ (set entries count (record { rides = k; arrival = read })) (count + 1) read (k + 1)
-      listing-take {legs′} e =
-          let gained = entry-gained T q k is-entry in
-          let same = legs-same T q labels (f .ok) k (q .target) l gained in
-          let place : length (entriesBelow T q k) < 9 = omega (arith, f .count-is, listing-place) in
+        pub listing-traceable : Traceable T labels (length legs) k (q .target)
+        listing-traceable = record {
+          fit = f .ok .fit;
+          labels-room = labels-room T q labels (f .ok);
+          legs-room = omega (arith, ap length (f .legs-are) ∙ length-append (legsBelow T q k) _, length-below T q k);
+          few = listing-few;
+          rides = λ j lj. rides-after T q labels (f .ok) j (omega arith);
+          leads = leads-of T q labels (f .ok) k (q .target) l (entry-gained T q k is-entry);
+        }
+
+        pub listing-take : {legs′ : List ℕ} {listed′ : Listed} → legs′ ≡ sets legs (k * 40 - 40) (legNumbers (legsIn T labels k (q .target))) → listed′ ≡ listedAlso listed k arrival
+            → Listing T q labels legs₀ legs′ listed′ arrival (k + 1)
+        listing-take {legs′} {listed′} e also =
+            let gained = entry-gained T q k is-entry in
+            let same = legs-same T q labels (f .ok) k (q .target) l gained in
+            let counted : listed .count + 1 ≡ length (entriesBelow T q (k + 1)) = rw (entries-take T q k is-entry, length-append, f .count-is) in
+            let place : length (entriesBelow T q k) < 9 = omega (arith, f .count-is, listing-place) in
+            record {
+              room = f .room;
+              ok = f .ok;
+              few = omega arith;
+              count-is = ap (λ (z : Listed). z .count) also ∙ counted;
+              entries-are =
+                  ap (λ (z : Listed). z .entries) also
+                  ∙ ap₂ {C = List Entry} (λ (es : List Entry) (n : ℕ). set es n (record { rides = k; arrival = arrival })) (f .entries-are) (f .count-is)
+                  ∙ ap (λ (a : ℕ). set (inNine (entriesBelow T q k)) (length (entriesBelow T q k)) (record { rides = k; arrival = a })) arrival-is
+                  ∙ nine-more (entriesBelow T q k) (entryOf T q k) place
+                  ∙ ap inNine (sym (entries-take T q k is-entry));
+              best-is = omega (arith, minBelow-next k (atTarget T q), f .best-is, arrival-is);
+              small = let n = ap (λ (z : Listed). z .count) also in omega (arith, f .small);
+              legs-are =
+                  e
+                  ∙ ap₂ {C = List ℕ} (λ (xs ys : List ℕ). sets xs (k * 40 - 40) ys) (f .legs-are) (ap legNumbers same)
+                  ∙ below-take T q k legs₀ (legNumbers (legsOf T q k (q .target))) l listing-few is-entry refl (legs-fit T q labels (f .ok) k (q .target) l gained);
+              size = ap length e ∙ length-sets legs (k * 40 - 40) (legNumbers (legsIn T labels k (q .target))) ∙ f .size;
+            }
+
+      pub listing-skip : best ≤ arrival → Listing T q labels legs₀ legs listed best (k + 1)
+      listing-skip later =
+          let none-here = not-listed T q k arrival-is (f .best-is) later in
+          let e = entries-skip T q k none-here in
           record {
             room = f .room;
             ok = f .ok;
             few = omega arith;
-            count-is = rw (entries-take T q k is-entry, length-append, f .count-is);
-            entries-are =
-                ap₂ {C = List Entry} (λ (es : List Entry) (n : ℕ). set es n (record { rides = k; arrival = read })) (f .entries-are) (f .count-is)
-                ∙ ap (λ (a : ℕ). set (inNine (entriesBelow T q k)) (length (entriesBelow T q k)) (record { rides = k; arrival = a })) arrival-is
-                ∙ nine-more (entriesBelow T q k) (entryOf T q k) place
-                ∙ ap inNine (sym (entries-take T q k is-entry));
+            count-is = rw e (f .count-is);
+            entries-are = rw e (f .entries-are);
             best-is = omega (arith, minBelow-next k (atTarget T q), f .best-is, arrival-is);
             small = omega (arith, f .small);
-            legs-are =
-                e
-                ∙ ap₂ {C = List ℕ} (λ (xs ys : List ℕ). sets xs (k * 40 - 40) ys) (f .legs-are) (ap legNumbers same)
-                ∙ below-take T q k legs₀ (legNumbers (legsOf T q k (q .target))) l listing-few is-entry refl (legs-fit T q labels (f .ok) k (q .target) l gained);
-            size = ap length e ∙ length-sets legs (k * 40 - 40) (legNumbers (legsIn T labels k (q .target))) ∙ f .size;
+            legs-are = f .legs-are ∙ ap (λ (xs : List ℕ). over xs legs₀) (below-skip T q k none-here);
+            size = f .size;
           }
-
-    pub listing-skip : best ≤ read → Listing T q labels legs₀ legs entries count best (k + 1)
-    listing-skip later =
-        let none-here = not-listed T q k arrival-is (f .best-is) later in
-        let e = entries-skip T q k none-here in
-        record {
-          room = f .room;
-          ok = f .ok;
-          few = omega arith;
-          count-is = rw e (f .count-is);
-          entries-are = rw e (f .entries-are);
-          best-is = omega (arith, minBelow-next k (atTarget T q), f .best-is, arrival-is);
-          small = omega (arith, f .small);
-          legs-are = f .legs-are ∙ ap (λ (xs : List ℕ). over xs legs₀) (below-skip T q k none-here);
-          size = f .size;
-        }
 
   pub listing-length : (d : List ℕ) → legs₀ ≡ over (replicate 320 mark) d → 320 ≤ length d → length legs ≡ length d
   listing-length d e h = f .size ∙ ap length e ∙ length-over (replicate 320 mark) d (rw length-replicate h)
 
-  pub listing-end : (d : List ℕ) → legs₀ ≡ over (replicate 320 mark) d → q .limit < k → ReadBack T q d legs count entries
+  pub listing-end : (d : List ℕ) → legs₀ ≡ over (replicate 320 mark) d → q .limit < k → ReadBack T q d legs (listed .count) (listed .entries)
   unfolding entriesOf
   listing-end d e l =
       let z : k ≡ q .limit + 1 = let a = f .few in omega arith in

@@ -12,11 +12,11 @@ use Rattle.paper.specs.Tie.{boardStop, numbersOf}
 use Rattle.paper.specs.Reply.{legNumbers}
 use Rattle.paper.specs.declared.Leg.{Leg}
 use Rattle.paper.proofs.Usable.{stop-is}
-use Rattle.journeys.specs.declared.Found.{Found}
-use Rattle.journeys.specs.declared.Found.the-variants.{Step, Nothing}
-use Rattle.journeys.specs.Search.{foundOf, Searched}
+use Rattle.steps.specs.declared.Found.{Found}
+use Rattle.steps.specs.declared.Found.the-variants.{Step, Nothing}
+use Rattle.steps.specs.Search.{foundOf, Searched}
 use Rattle.journeys.specs.ReadBack.{rowIn, stepIn, Stepping, Placed, placedStop, legsIn, Leads, here, back, Traceable}
-use Rattle.journeys.proofs.Stand.{head-in, positions-in}
+use Rattle.paper.proofs.RouteEnds.{head-in, positions-in}
 use Rattle.laws.specs.Lists.{part}
 use Rattle.laws.proofs.Lists.{length-part, getD-part}
 use Rattle.laws.proofs.Runs.{sets-front}
@@ -125,10 +125,10 @@ module _ {T : Tables} {labels : List ℕ} {k target : ℕ} {legs₀ legs : List 
         legs-split : legsIn T labels j p ≡ legsIn T labels (j - 1) (boardStop T g) ++ (g ∷ [])
         legs-split = let z : j ≡ suc (j - 1) = omega arith in ap (λ (n : ℕ). legsIn T labels n p) z ∙ legs-in-step T labels (j - 1) p g found-it
 
-        pub tracing-step : {legs′ : List ℕ} {p′ : ℕ} → legs′ ≡ sets legs (k * 40 - 40 + (j - 1) * 5) (numbersOf g) → p′ ≡ placedStop (T .t1) (T .t2) g
+        pub tracing-step : {at : ℕ} {legs′ : List ℕ} {p′ : ℕ} → at ≡ k * 40 - 40 + (j - 1) * 5 → legs′ ≡ sets legs at (numbersOf g) → p′ ≡ placedStop (T .t1) (T .t2) g
             → Tracing T labels k target legs₀ legs′ p′ (j - 1)
         unfolding legNumbers
-        tracing-step {legs′} {p′} w s =
+        tracing-step {legs′} {p′} place w s =
             let at : p′ ≡ boardStop T g = s ∙ stop-at in
             record {
               ok = t .ok;
@@ -142,7 +142,7 @@ module _ {T : Tables} {labels : List ℕ} {k target : ℕ} {legs₀ legs : List 
                   ∙ ap (λ (n : ℕ). legsIn T labels (j - 1) n ++ (g ∷ t .tail)) (sym at);
               written =
                   w
-                  ∙ ap (λ (xs : List ℕ). sets xs (k * 40 - 40 + (j - 1) * 5) (numbersOf g)) (t .written)
+                  ∙ ap₂ {C = List ℕ} (λ (xs : List ℕ) (n : ℕ). sets xs n (numbersOf g)) (t .written) place
                   ∙ sets-front (numbersOf g) (legNumbers (t .tail)) legs₀ (k * 40 - 40 + (j - 1) * 5) (k * 40 - 40 + j * 5) (omega arith);
             }
 

@@ -1,3 +1,2 @@
--- What the contracts of `journeys` cite: the search for a last step, and reading back.
-pub mod Search
+-- What the contracts of `journeys` cite: reading back.
 pub mod ReadBack

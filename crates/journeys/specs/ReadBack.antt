@@ -4,7 +4,7 @@ use mathlib.Core.Bool.{false}
 use mathlib.Core.List.{List, [], _∷_, _++_}
 use mathlib.Core.Option.{Option, none, some}
 use Prim.Native.Nat.{ℕ, zero, suc, _+_, _*_, _≤_, _<_}
-use lib.ListN.{length, getD}
+use lib.ListN.{length, getD, set}
 use Rattle.laws.specs.Lists.{part, over}
 use Rattle.paper.specs.Rules.{Fit}
 use Rattle.paper.specs.Timetable.{Tables, nOf}
@@ -14,7 +14,9 @@ use Rattle.paper.specs.Reply.{questionBroken, inNine, labelsTable, legsTable}
 use Rattle.paper.specs.declared.Leg.{Leg}
 use Rattle.paper.specs.declared.Entry.{Entry}
 use Rattle.paper.specs.declared.Question.{Question}
-use Rattle.journeys.specs.Search.{extentOf, stopIn}
+use Rattle.extents.specs.Extent.{extentOf}
+use Rattle.journeys.specs.declared.Listed.{Listed}
+use Rattle.steps.specs.Search.{stopIn}
 
 -- "nine rows of 256": row k's labels of so many stops
 abbrev pub rowIn : List ℕ → ℕ → ℕ → List ℕ
@@ -35,6 +37,11 @@ pub record Stepping (T : Tables) (labels : List ℕ) (k p : ℕ) : Type 0 where
   pub few : k < 8
   pub stop : p < T .stops
   pub rides : RidesAfter T labels k
+
+-- leg j of k rides, at most eight
+pub record Numbered (k j : ℕ) : Type 0 where
+  pub few : k ≤ 8
+  pub leg : j < k
 
 -- a leg's boarding position stands in table 2, and the stop there
 pub record Placed (t1 t2 : List ℕ) (g : Leg) : Type 0 where
@@ -65,6 +72,10 @@ pub record Traceable (T : Tables) (labels : List ℕ) (room k p : ℕ) : Type 0 
   pub few : k ≤ 8
   pub rides : (j : ℕ) → j < k → RidesAfter T labels j
   pub leads : Leads T labels k p
+
+-- what is listed, and one entry after it
+abbrev pub listedAlso : Listed → ℕ → ℕ → Listed
+listedAlso x k arrival = record { count = x .count + 1; entries = set (x .entries) (x .count) (record { rides = k; arrival = arrival }) }
 
 -- a good question about a sound timetable, with its labels and room for the legs
 pub record Readable (T : Tables) (q : Question) (labels : List ℕ) (room : ℕ) : Type 0 where

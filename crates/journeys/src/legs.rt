@@ -6,15 +6,15 @@ ghost use lib.Seq.{sets};
 ghost use Rattle.paper.specs.Timetable.{lent};
 ghost use Rattle.paper.specs.Tie.{numbersOf};
 ghost use Rattle.paper.specs.Reply.{legNumbers};
-ghost use Rattle.journeys.specs.Search.{foundOf};
-ghost use Rattle.journeys.specs.ReadBack.{stepIn, Stepping, Placed, placedStop, legsIn, Traceable};
-use crate::Found;
-use crate::MARK;
-use crate::steps::extent_of;
-use crate::steps::last_step;
+ghost use Rattle.steps.specs.Search.{foundOf};
+ghost use Rattle.journeys.specs.ReadBack.{stepIn, Stepping, Numbered, Placed, placedStop, legsIn, Traceable};
+use extents::extent_of;
 use paper::After;
 use paper::Heads;
 use paper::Leg;
+use steps::Found;
+use steps::MARK;
+use steps::last_step;
 
 // A leg as the legs table holds it: route, trip, boarding position, leaving position, stop walked to or the mark.
 pub fn numbers(leg: Leg) -> [u32; 5]
@@ -39,6 +39,14 @@ pub fn put_leg(legs: &mut [u32], at: usize, leg: Leg)
         legs[at + i] = x[i];
         i += 1;
     }
+}
+
+// Where leg j of k rides begins: in row k - 1 of the legs table, in travel order.
+pub fn place_of(k: u32, j: u32) -> usize
+    requires { ⌜ Numbered k j ⌝ }
+    ensures { λ r. ⌜ r ≡ k * 40 - 40 + j * 5 ⌝ }
+{
+    (k as usize) * 40 + (j as usize) * 5 - 40
 }
 
 // The stop where a leg is boarded.
@@ -114,7 +122,7 @@ pub fn trace(
             j,
             p,
         ) {
-            put_leg(legs, (k as usize) * 40 - 40 + (j as usize) * 5, leg);
+            put_leg(legs, place_of(k, j), leg);
             p = board_stop(routes, positions, leg);
         }
     }

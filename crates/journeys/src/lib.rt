@@ -1,49 +1,24 @@
 // Journeys are read back from the labels by the tie rule: the first last step, and from its boarding stop again.
 ghost use mathlib.Core.Path.{_≡_};
-ghost use Prim.Native.Nat.{_≤_};
-ghost use lib.ListN.{length, replicate};
+ghost use Prim.Native.Nat.{_+_, _*_, _≤_, _<_};
+ghost use lib.ListN.{length, getD, replicate};
 ghost use Rattle.laws.specs.Below.{mark};
 ghost use Rattle.laws.specs.Lists.{over};
 ghost use Rattle.paper.specs.Timetable.{lent};
-ghost use Rattle.journeys.specs.ReadBack.{Readable, ReadBack};
+ghost use Rattle.journeys.specs.ReadBack.{listedAlso, Readable, ReadBack};
 
 mod legs;
-mod steps;
 
 use crate::legs::trace;
-use paper::After;
 use paper::Entry;
 use paper::Heads;
-use paper::Leg;
 use paper::Question;
-
-// Unreached, or no walk.
-pub const MARK: u32 = 4294967295;
-
-// What the search finds.
-pub enum Found {
-    Step(Leg),
-    Nothing,
-}
+use steps::MARK;
 
 // The first `count` of the entries are those found, the others are zero.
 pub struct Listed {
     pub count: u32,
     pub entries: [Entry; 9],
-}
-
-// A way in to a stop: where a ride has to end, the seconds from there, and what comes after it.
-pub enum Way {
-    Open(u32, u32, After),
-    Shut,
-}
-
-// A route's n and m, its first position and its first event.
-pub struct Extent {
-    pub n: u32,
-    pub m: u32,
-    pub first: usize,
-    pub event: usize,
 }
 
 // The whole legs table is the mark; what lies beyond stays.
@@ -55,6 +30,32 @@ pub fn clear(legs: &mut [u32])
     while i < 320 {
         legs[i] = MARK;
         i += 1;
+    }
+}
+
+// The label of stop s in row k.
+fn label_at(labels: &[u32], k: u32, s: u32) -> u32
+    requires { ⌜ k * 256 + s < length (now labels) ⌝ }
+    ensures { λ r. ⌜ r ≡ getD (now (labels .entry)) (k * 256 + s) 0 ⌝ }
+{
+    let at = (k as usize) * 256 + (s as usize);
+    labels[at]
+}
+
+// What is listed, and after it the entry of k rides.
+fn list_also(listed: Listed, k: u32, arrival: u32) -> Listed
+    requires { ⌜ listed .count < 9 ⌝ }
+    ensures { λ r. ⌜ r ≡ listedAlso listed k arrival ⌝ }
+{
+    let place = listed.count as usize;
+    let mut entries = listed.entries;
+    entries[place] = Entry {
+        rides: k,
+        arrival: arrival,
+    };
+    Listed {
+        count: listed.count + 1,
+        entries: entries,
     }
 }
 
@@ -74,24 +75,20 @@ pub fn read_back(
     ensures { λ r. ⌜ ReadBack (lent heads (routes .entry) (positions .entry) (arrivals .entry) (departures .entry) (walks .entry)) q (now (legs .entry)) (now (legs .exit)) (r .count) (r .entries) ⌝ }
 {
     clear(legs);
-    let mut entries = [Entry {
-        rides: 0,
-        arrival: 0,
-    }; 9];
-    let mut count: u32 = 0;
+    let mut listed = Listed {
+        count: 0,
+        entries: [Entry {
+            rides: 0,
+            arrival: 0,
+        }; 9],
+    };
     let mut best = MARK;
     let mut k: u32 = 0;
     while k <= q.limit {
-        let at = (k as usize) * 256 + (q.target as usize);
-        let arrival = labels[at];
+        let arrival = label_at(labels, k, q.target);
         if arrival < best {
-            let place = count as usize;
-            entries[place] = Entry {
-                rides: k,
-                arrival: arrival,
-            };
-            count += 1;
             best = arrival;
+            listed = list_also(listed, k, arrival);
             trace(
                 heads,
                 routes,
@@ -107,8 +104,5 @@ pub fn read_back(
         }
         k += 1;
     }
-    Listed {
-        count: count,
-        entries: entries,
-    }
+    listed
 }

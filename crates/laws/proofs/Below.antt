@@ -1,4 +1,4 @@
--- Laws of the least, some, first and sum over the numbers below a bound, and of a loop that searches.
+-- Laws of the least, some, first, last and sum over the numbers below a bound, and of a loop that searches.
 use mathlib.Core.Path.{_≡_, refl, sym, _∙_}
 use mathlib.Core.Logic.{_≢_, ⊎-elim}
 use mathlib.Core.Bool.{Bool, true, false, _||_}
@@ -7,7 +7,7 @@ use native.Mathlib.Nat.{le-refl}
 use native.Mathlib.Numerals.{add-one}
 use native.Mathlib.Omega.{arith}
 use borrow.Author.Count.{below-more, below-none}
-use Rattle.laws.specs.Below.{mark, only, minBelow, anyBelow, firstBelow, sumBelow, iterate}
+use Rattle.laws.specs.Below.{mark, only, minBelow, anyBelow, firstBelow, pastBelow, sumBelow, iterate}
 use Rattle.laws.proofs.Tests.{by-test, by-lt, both-ways, or-one, min-is}
 
 -- ---- only
@@ -153,6 +153,25 @@ firstBelow-only k p r h before at =
 
 pub firstBelow-is : (k : ℕ) (p : ℕ → Bool) (n : ℕ) → n < k → p n ≡ true → ((i : ℕ) → i < n → p i ≡ false) → firstBelow k p ≡ n
 firstBelow-is k p n l h f = firstBelow-only k p n (omega arith) f (λ _. h)
+
+-- ---- pastBelow
+
+pub pastBelow-le : (k : ℕ) (p : ℕ → Bool) → pastBelow k p ≤ k
+unfolding pastBelow
+pastBelow-le zero p = le-refl zero
+pastBelow-le (suc k) p =
+    let r = pastBelow-le k p in
+    by-test (p k) (λ t. rw t (le-refl (suc k))) (λ f. rw f (omega arith))
+
+-- p holds of no number from there on
+pub pastBelow-not : (k : ℕ) (p : ℕ → Bool) (i : ℕ) → pastBelow k p ≤ i → i < k → p i ≡ false
+unfolding pastBelow
+pastBelow-not zero p i h l = absurd (omega arith)
+pastBelow-not (suc k) p i h l =
+    by-test (p k)
+    (λ t. let z = rw t at h in absurd (omega arith))
+    (λ f. let g = rw f at h in
+    by-lt i k (λ m. pastBelow-not k p i g m) (λ m. let z : i ≡ k = omega arith in rw z f))
 
 -- ---- sumBelow
 

@@ -2,3 +2,4 @@
 pub mod dice;
 pub mod network;
 pub mod questions;
+mod routes;

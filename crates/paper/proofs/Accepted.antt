@@ -8,7 +8,7 @@ use native.Mathlib.Omega.{arith}
 use lib.ListN.{length, take, length-append, List·getD-eq-default}
 use lib.Seq.{take-at, take-length}
 use lib.Dec.{eqb, leb}
-use borrow.Author.Tests.{eqb-true, eqb-false, leb-true}
+use borrow.Author.Tests.{eqb-true, leb-true}
 use Rattle.laws.specs.Below.{iterate}
 use Rattle.laws.specs.Lists.{pieces}
 use Rattle.laws.specs.Fields.{byte, two}
@@ -18,12 +18,13 @@ use Rattle.laws.proofs.Fields.{Has, has-nil, has-cons, has-append, has-at}
 use Rattle.paper.specs.Timetable.{Tables}
 use Rattle.paper.specs.Rules.{Refusal, firstBroken, wholeRules}
 use Rattle.paper.specs.Feed.{routesBytes, walksBytes, sizeOf, headBytes, summed, fletcherOf, feedOf}
-use Rattle.paper.specs.Reading.{Untouched, Zeroed, Accepted, marked, Routes, nextRoute, noRoutes, Walks, nextWalk, Whole, ended, recordsOf, headBad, headOnly, wholeOf, tablesIn, lengthRight, sumRight, judged, bodyOf, readOf}
+use Rattle.paper.specs.Reading.{Untouched, Zeroed, Accepted, marked, Routes, nextRoute, noRoutes, Walks, nextWalk, Whole, ended, recordsOf, headBad, wholeOf, tablesIn, lengthRight, sumRight, judged, bodyOf, readOf}
 use Rattle.paper.proofs.Written.{Counts, length-walks, length-summed}
 use Rattle.paper.proofs.FeedTrips.{front-same, has-two-then, has-marked}
 use Rattle.paper.proofs.FeedRoutes.{Fronts, Upto, upto}
 use Rattle.paper.proofs.FeedWalks.{walks-well, walkOf, noWalks, walks-closed, has-walks}
 use Rattle.paper.specs.Demands.{Exact, Bytes}
+use Rattle.paper.proofs.HeadRead.{head-well, whole-records, last-well}
 
 pub bytes-all : (f : List ℕ) → Bytes f → (i : ℕ) → byte f i < 256
 bytes-all f B i = by-lt i (length f) (λ l. B i l) (λ l. rw (List·getD-eq-default f 0 l) (omega arith))
@@ -207,25 +208,6 @@ pub record Told (f : List ℕ) (T : Tables) : Type 0 where
   pub exact : Exact T
   pub rules : firstBroken wholeRules T ≡ none
 
-head-well : (f : List ℕ) → wholeOf f .bad ≡ 0 → headBad f ≡ 0
-unfolding wholeOf headOnly
-head-well f h =
-    by-test (eqb (headBad f) 0)
-    (λ p. eqb-true (headBad f) 0 p)
-    (λ p. simp p at h)
-
-whole-records : (f : List ℕ) → headBad f ≡ 0 → wholeOf f ≡ recordsOf f (byte f 4) (two f 5)
-unfolding wholeOf
-whole-records f e = simp e
-
-last-inv : (b : ℕ) (c : Bool) → cond (eqb b 0) (cond c 0 3) b ≡ 0 → (b ≡ 0) × (c ≡ true)
-last-inv b c h =
-    by-test (eqb b 0)
-    (λ p. by-test c
-    (λ q. (eqb-true b 0 p, q))
-    (λ q. let z : _≡_ {A = ℕ} 3 0 = simp (p, q) at h in absurd (omega arith)))
-    (λ p. let z : b ≡ 0 = simp p at h in absurd (eqb-false b 0 p z))
-
 -- an accepted list of bytes is the feed of the timetable that was read
 pub accepted : (f : List ℕ) (T : Tables) → Bytes f → readOf f ≡ Accepted T → Told f T
 unfolding tablesIn recordsOf
@@ -239,7 +221,7 @@ accepted f T bytes h =
     let R : Routes = iterate (byte f 4) (nextRoute f e) noRoutes in
     let W : Walks = iterate (two f 5) (nextWalk f e) (record { bad = R .bad; at = R .at; t5 = [] }) in
     let b : recordsOf f (byte f 4) (two f 5) .bad ≡ 0 = sym (ap (λ (x : Whole). x .bad) w) ∙ P .well in
-    let l = last-inv (W .bad) (ended f (W .at)) b in
+    let l = last-well (W .bad) (ended f (W .at)) b in
     let bR : R .bad ≡ 0 = walks-well f e (record { bad = R .bad; at = R .at; t5 = [] }) (two f 5) (l .0) in
     let E : _≡_ {A = Walks} (record { bad = R .bad; at = R .at; t5 = [] }) (noWalks f e (R .at)) = λ i. record { bad = bR i; at = R .at; t5 = [] } in
     let W′ : W ≡ iterate (two f 5) (nextWalk f e) (noWalks f e (R .at)) = ap (iterate (two f 5) (nextWalk f e)) E in

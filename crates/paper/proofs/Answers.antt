@@ -40,7 +40,7 @@ module _ (T : Tables) (q : Question) where
       ∙ getD-tab 256 _ s 0 m
       ∙ ap (λ (b : Bool). cond b (label (rowOf T q k) s) mark) (le-leb k (q .limit) l))
 
-  length-row : (k : ℕ) → length (legsRow T q k) ≡ 40
+  pub length-row : (k : ℕ) → length (legsRow T q k) ≡ 40
   unfolding legsRow
   length-row k = go (leb k (q .limit) && isEntry T q k)
     where

@@ -27,7 +27,7 @@ pub record WholeUnbroken (T : Tables) : Type 0 where
   pub walks : lowestOf (T .walks) (walkBroken T) ≡ none
   pub opened : lowestOf (T .walks) (opens T) ≡ none
 
-refused-none : (number : ℕ) (x : Option ℕ) → refusedBy number x ≡ none → x ≡ none
+pub refused-none : (number : ℕ) (x : Option ℕ) → refusedBy number x ≡ none → x ≡ none
 unfolding refusedBy
 refused-none number none e = refl
 refused-none number (some place) e = absurd (some-none refl e)

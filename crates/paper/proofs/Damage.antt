@@ -1,5 +1,5 @@
 -- What the length field and the sum see: a feed that is cut, lengthened, or changed in one byte.
-use mathlib.Core.Path.{_≡_, refl, sym, ap, _∙_}
+use mathlib.Core.Path.{_≡_, sym, ap, _∙_}
 use mathlib.Core.Logic.{_≢_, _⊎_, inl, inr}
 use mathlib.Core.List.{List, [], _∷_, _++_}
 use mathlib.Core.Bool.{true}
@@ -15,6 +15,7 @@ use Rattle.paper.specs.Timetable.{Tables}
 use Rattle.paper.specs.declared.Sum.{Sum}
 use Rattle.paper.specs.Feed.{fletcherStep, fletcherFrom, fletcherOf}
 use Rattle.paper.specs.Reading.{Untouched, Accepted, lengthRight, sumRight, readOf}
+use Rattle.paper.proofs.InParts.{fletcher-append}
 use Rattle.paper.proofs.Accepted.{passed, length-says, sum-says}
 use Rattle.paper.specs.Demands.{Bytes}
 
@@ -46,11 +47,6 @@ longer-refused f T x xs h =
     (λ q. omega (arith, length-append f (x ∷ xs)))
 
 -- ---- the sum
-
-fletcher-append : (xs ys : List ℕ) (s : Sum) → fletcherFrom s (xs ++ ys) ≡ fletcherFrom (fletcherFrom s xs) ys
-unfolding fletcherFrom
-fletcher-append [] ys s = refl
-fletcher-append (x ∷ xs) ys s = fletcher-append xs ys (fletcherStep s x)
 
 -- the first number of the sum does not forget where it began
 first-back : (ys : List ℕ) (s t : Sum) → s .first < 255 → t .first < 255 → fletcherFrom s ys .first ≡ fletcherFrom t ys .first → s .first ≡ t .first

@@ -47,7 +47,7 @@ module _ (T : Tables) (q : Question) where
   row-in (suc k) s h = label-in (T .stops) _ s h
 
   -- row 0: the start, at the departure time
-  label-zero : (s : ℕ) → s < T .stops → label (rowOf T q 0) s ≡ only (eqb s (q .start)) (q .time)
+  pub label-zero : (s : ℕ) → s < T .stops → label (rowOf T q 0) s ≡ only (eqb s (q .start)) (q .time)
   unfolding rowOf firstRow
   label-zero s h = label-tab (T .stops) _ s h
 

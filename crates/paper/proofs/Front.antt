@@ -1,7 +1,7 @@
 -- No more of a file than 17,870 bytes, and no more of the input than its first line or 81 bytes, bears on what is printed.
 use mathlib.Core.Path.{_≡_, refl, _∙_}
 use mathlib.Core.Logic.{_⊎_, ⊎-elim}
-use mathlib.Core.Bool.{Bool, true, false, _&&_}
+use mathlib.Core.Bool.{false}
 use mathlib.Core.List.{List, [], _∷_}
 use Prim.Native.Nat.{ℕ, zero, suc, _≤_, _<_, min}
 use native.Mathlib.Omega.{arith}
@@ -10,14 +10,10 @@ use lib.ListN.{length, take, length-take}
 use lib.Seq.{take-all, take-take}
 use borrow.Author.Tests.{lt-ltb, le-ltb, lt-leb}
 use Rattle.laws.specs.Below.{firstBelow, given}
-use Rattle.laws.proofs.Tests.{by-test, by-lt}
+use Rattle.laws.proofs.Tests.{by-test, by-lt, and-no}
 use Rattle.paper.specs.Reading.{lengthRight, readOf}
 use Rattle.paper.specs.Lines.{newline, lineEnd, isLine, questionOf, printed}
 use Rattle.paper.proofs.Lines.{firstOf}
-
-and-no : (b : Bool) → (b && false) ≡ false
-and-no true = refl
-and-no false = refl
 
 -- ---- the file: one byte more than the longest feed has tells that it is too long
 

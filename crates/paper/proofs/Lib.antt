@@ -6,6 +6,7 @@ pub mod Lowest
 pub mod Places
 pub mod Checks
 pub mod LowestPlace
+pub mod RouteEnds
 pub mod Usable
 pub mod Rides
 pub mod Steps
@@ -21,10 +22,12 @@ pub mod Written
 pub mod FeedRecords
 pub mod TripsBack
 pub mod ReadBack
+pub mod HeadRead
 pub mod FeedTrips
 pub mod FeedRoutes
 pub mod FeedWalks
 pub mod Accepted
+pub mod InParts
 pub mod Damage
 pub mod Agree
 pub mod WellRead
@@ -38,4 +41,5 @@ pub mod Demands
 pub mod Lines
 pub mod Printed
 pub mod Printing
+pub mod Told
 pub mod Front

@@ -14,7 +14,7 @@ use Rattle.paper.specs.Timetable.{Tables, nOf, mOf, positionsTo, eventsT
 use Rattle.paper.specs.Rules.{Refusal, headsBroken, routeBroken, stopBroken, timeBroken, overtakes, eventOf, lowestOf, lowestTime, lowestOvertaken, walkBroken, opens, countRules, wholeRules, refusedBy, firstBroken, faultOf}
 use Rattle.paper.specs.Reply.{refusal}
 use Rattle.paper.proofs.Lowest.{given-nothing, LowestAt, lowest-hit}
-use Rattle.paper.proofs.Checks.{CountsUnbroken, counts-unbroken, routes-right}
+use Rattle.paper.proofs.Checks.{CountsUnbroken, counts-unbroken, routes-right, refused-none}
 
 -- an event is broken whose number is e, and no event of a lower number is. `broken` and `number` go by route, trip and position
 pub record LowestEvent (T : Tables) (trips : ℕ → ℕ) (broken : ℕ → ℕ → ℕ → Bool) (number : ℕ → ℕ → ℕ → ℕ) (e : ℕ) : Type 0 where
@@ -155,18 +155,13 @@ unfolding refusedBy
 refused-at number none e = absurd (some-none e refl)
 refused-at number (some p) e = (p, refl, some-same e)
 
-refused-not : (number : ℕ) (x : Option ℕ) → refusedBy number x ≡ none → x ≡ none
-unfolding refusedBy
-refused-not number none e = refl
-refused-not number (some p) e = absurd (some-none refl e)
-
 -- a rule refuses at its place, or does not and the rules after it do
 rule-cases : (number : ℕ) (x : Option ℕ) (y : Option Refusal) {a : Refusal} {C : Type 0} → orElse (refusedBy number x) y ≡ some a
     → ((p : ℕ) → x ≡ some p → refusal number p ≡ a → C) → (x ≡ none → y ≡ some a → C) → C
 rule-cases number x y e here after =
     ⊎-elim
     (λ q. let r = refused-at number x q in here (r .0) (r .1) (r .2))
-    (λ q. after (refused-not number x (q .0)) (q .1))
+    (λ q. after (refused-none number x (q .0)) (q .1))
     (else-cases (refusedBy number x) y e)
 
 module _ (T : Tables) (a : Refusal) where

@@ -8,6 +8,7 @@ use lib.Dec.{eqb}
 use lib.ListN.{length, getD, replicate}
 use borrow.Author.Tests.{eqb-false}
 use Rattle.laws.specs.Below.{mark}
+use Rattle.laws.specs.Text.{ascii}
 use Rattle.laws.specs.Lists.{pieces}
 use Rattle.laws.proofs.Tests.{by-test}
 use Rattle.paper.specs.Rules.{Refusal}
@@ -65,7 +66,7 @@ plain : (x : ℕ) → Without newline (decimal x)
 plain x = decimal-without newline x newline-digit
 
 walked-without : (w : ℕ) → Without newline (walkedWord w)
-unfolding walkedWord
+unfolding walkedWord ascii
 walked-without w = by-test (eqb w mark) (λ e. rw e (also refl blank)) (λ e. rw e (plain w))
 
 leg-without : (legs : List ℕ) (at : ℕ) → Without newline (legBody legs at)
@@ -99,7 +100,7 @@ abbrev tripsPart : ℕ → ℕ → List ℕ → List ℕ
 tripsPart k t rs = 116 ∷ 114 ∷ 105 ∷ 112 ∷ 115 ∷ 32 ∷ (decimal k ++ (32 ∷ arrivePart t rs))
 
 trips-line : (k t : ℕ) (rs : List ℕ) → tripsLine k t ++ rs ≡ tripsPart k t rs
-unfolding tripsLine
+unfolding tripsLine ascii
 trips-line k t rs = simp append-assoc
 
 abbrev workPart : ℕ → List ℕ → List ℕ
@@ -109,14 +110,14 @@ abbrev journeysPart : ℕ → ℕ → List ℕ → List ℕ
 journeysPart n w rs = 106 ∷ 111 ∷ 117 ∷ 114 ∷ 110 ∷ 101 ∷ 121 ∷ 115 ∷ 32 ∷ (decimal n ++ (32 ∷ workPart w rs))
 
 journeys-line : (n w : ℕ) (rs : List ℕ) → journeysLine n w ++ rs ≡ journeysPart n w rs
-unfolding journeysLine
+unfolding journeysLine ascii
 journeys-line n w rs = simp append-assoc
 
 abbrev refusedPart : ℕ → ℕ → List ℕ
 refusedPart n p = 114 ∷ 101 ∷ 102 ∷ 117 ∷ 115 ∷ 101 ∷ 100 ∷ 32 ∷ (decimal n ++ (space ∷ (decimal p ++ (newline ∷ []))))
 
 refused-line : (n p : ℕ) → refusedLine n p ≡ refusedPart n p
-unfolding refusedLine
+unfolding refusedLine ascii
 refused-line n p = simp append-assoc
 
 -- ---- entries

@@ -34,7 +34,7 @@ kept-answered : {x : Refusal} {C : Type 0} → Kept x ≡ Answered → C
 kept-answered e = let z : _≡_ {A = ℕ} 0 1 = cc in absurd (omega arith)
 
 -- 12 refuses nothing: the ride limit is not too large
-limit-of : (T : Tables) (q : Question) → questionBroken T q ≡ false → q .limit ≤ 8
+pub limit-of : (T : Tables) (q : Question) → questionBroken T q ≡ false → q .limit ≤ 8
 unfolding questionBroken
 limit-of T q e =
     ltb-false 8 (q .limit)

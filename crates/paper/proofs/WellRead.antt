@@ -1,20 +1,16 @@
 -- What a walk through all records that is well tells: the counts and lengths of the timetable that was read are right, before 7 to 11 are looked at.
 use mathlib.Core.Path.{_≡_, refl, sym, ap, _∙_, subst}
 use mathlib.Core.List.{List, [], _∷_, _++_}
-use mathlib.Core.Bool.{Bool, true, false, cond, _&&_}
 use mathlib.Core.Option.{none}
 use Prim.Native.Nat.{ℕ, zero, suc, _+_, _*_, _-_, _≤_, _<_}
 use native.Mathlib.Omega.{arith}
 use lib.ListN.{length, length-append}
-use lib.Dec.{eqb, leb}
-use borrow.Author.Tests.{eqb-true, leb-true}
 use Rattle.laws.specs.Below.{iterate}
 use Rattle.laws.specs.Fields.{byte, two}
-use Rattle.laws.proofs.Tests.{by-test, and-both}
 use Rattle.laws.proofs.Below.{sumBelow-at}
 use Rattle.paper.specs.Timetable.{Tables, nOf, mOf, tripsTo, eventsTo}
 use Rattle.paper.specs.Rules.{firstBroken, countRules, routeBroken}
-use Rattle.paper.specs.Reading.{Routes, nextRoute, noRoutes, Walks, nextWalk, Whole, ended, recordsOf, headBad, headOnly, wholeOf, tablesIn}
+use Rattle.paper.specs.Reading.{Routes, nextRoute, noRoutes, Walks, nextWalk, Whole, ended, recordsOf, wholeOf, tablesIn}
 use Rattle.paper.proofs.Written.{Counts}
 use Rattle.paper.proofs.FeedRecords.{walk-good, walk-before}
 use Rattle.paper.proofs.FeedTrips.{front-same}
@@ -23,6 +19,7 @@ use Rattle.paper.proofs.Lowest.{lowest-none}
 use Rattle.paper.proofs.Places.{heads-whole, route-whole}
 use Rattle.paper.proofs.Checks.{counts-none}
 use Rattle.paper.specs.Demands.{Exact}
+use Rattle.paper.proofs.HeadRead.{head-counts, head-well, whole-records, last-well}
 
 -- right counts are refused by no rule of 5
 pub counts-unbroken : (T : Tables) → Counts T → firstBroken countRules T ≡ none
@@ -59,32 +56,6 @@ walks-long f e w (suc k) h =
     let g : nextWalk f e v .t5 ≡ v .t5 ++ x = ap (λ (z : Walks). z .t5) (walk-good f e v (b .0) (b .1)) in
     (i .0, omega (arith, ap length g, length-append (v .t5) x, i .1))
 
--- ---- the head and the end
-
-third : (x y z : Bool) → _≡_ {A = ℕ} (cond x (cond y (cond z 0 5) 4) 3) 0 → z ≡ true
-third true true true h = refl
-third true true false h = absurd (omega arith)
-third true false z h = absurd (omega arith)
-third false y z h = absurd (omega arith)
-
-head-counts : (f : List ℕ) → headBad f ≡ 0 → (byte f 4 ≤ 64) × (two f 5 ≤ 512)
-unfolding headBad
-head-counts f h =
-    let t = third (eqb (byte f 0) 0x54 && eqb (byte f 1) 0x48) (eqb (byte f 2) 1) (leb (byte f 4) 64 && leb (two f 5) 512) h in
-    let c = and-both (leb (byte f 4) 64) _ t in
-    (leb-true (byte f 4) 64 (c .0), leb-true (two f 5) 512 (c .1))
-
-head-well : (f : List ℕ) → wholeOf f .bad ≡ 0 → headBad f ≡ 0
-unfolding wholeOf headOnly
-head-well f h = by-test (eqb (headBad f) 0) (λ p. eqb-true (headBad f) 0 p) (λ p. simp p at h)
-
-whole-records : (f : List ℕ) → headBad f ≡ 0 → wholeOf f ≡ recordsOf f (byte f 4) (two f 5)
-unfolding wholeOf
-whole-records f e = simp e
-
-last-well : (b : ℕ) (c : Bool) → cond (eqb b 0) (cond c 0 3) b ≡ 0 → b ≡ 0
-last-well b c h = by-test (eqb b 0) (λ p. eqb-true b 0 p) (λ p. simp p at h)
-
 -- ---- all of it
 
 pub record Right (T : Tables) : Type 0 where
@@ -102,7 +73,7 @@ well-read f B h =
     let W₀ : Walks = record { bad = R .bad; at = R .at; t5 = [] } in
     let W : Walks = iterate (two f 5) (nextWalk f e) W₀ in
     let b : recordsOf f (byte f 4) (two f 5) .bad ≡ 0 = sym (ap (λ (x : Whole). x .bad) w) ∙ h in
-    let v = walks-long f e W₀ (two f 5) (last-well (W .bad) (ended f (W .at)) b) in
+    let v = walks-long f e W₀ (two f 5) (last-well (W .bad) (ended f (W .at)) b .0) in
     let T : Tables = record { stops = byte f 3 + 1; routes = byte f 4; walks = two f 5; t1 = R .t1; t2 = R .t2; t3 = R .t3; t4 = R .t4; t5 = W .t5 } in
     let same : T ≡ tablesIn f
     = λ i. record { stops = byte f 3 + 1; routes = byte f 4; walks = two f 5; t1 = sym w i .t1; t2 = sym w i .t2; t3 = sym w i .t3; t4 = sym w i .t4; t5 = sym w i .t5 } in

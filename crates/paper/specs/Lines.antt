@@ -7,6 +7,7 @@ use lib.Dec.{eqb, leb, ltb}
 use lib.ListN.{length, getD, take, replicate}
 use Rattle.laws.specs.Below.{mark, firstBelow, given}
 use Rattle.laws.specs.Lists.{pieces, every, over}
+use Rattle.laws.specs.Text.{ascii}
 use Rattle.paper.specs.Timetable.{Tables}
 use Rattle.paper.specs.Reading.{Outcome, Untouched, Zeroed, Accepted, readOf}
 use Rattle.paper.specs.Reply.{Reply, zeroEntry, replyOf}
@@ -78,19 +79,19 @@ decimal x = digits 10 x
 
 -- "refused NUMBER PLACE"
 unfoldable pub refusedLine : ℕ → ℕ → List ℕ
-refusedLine number place = (114 ∷ 101 ∷ 102 ∷ 117 ∷ 115 ∷ 101 ∷ 100 ∷ 32 ∷ []) ++ (decimal number ++ (space ∷ decimal place) ++ (newline ∷ []))
+refusedLine number place = ascii "refused " ++ (decimal number ++ (space ∷ decimal place) ++ (newline ∷ []))
 
 -- "journeys N work W"
 unfoldable pub journeysLine : ℕ → ℕ → List ℕ
-journeysLine count work = (106 ∷ 111 ∷ 117 ∷ 114 ∷ 110 ∷ 101 ∷ 121 ∷ 115 ∷ 32 ∷ []) ++ (decimal count ++ (32 ∷ 119 ∷ 111 ∷ 114 ∷ 107 ∷ 32 ∷ []) ++ decimal work ++ (newline ∷ []))
+journeysLine count work = ascii "journeys " ++ (decimal count ++ ascii " work " ++ decimal work ++ (newline ∷ []))
 
 -- "trips K arrive T"
 unfoldable pub tripsLine : ℕ → ℕ → List ℕ
-tripsLine rides arrival = (116 ∷ 114 ∷ 105 ∷ 112 ∷ 115 ∷ 32 ∷ []) ++ (decimal rides ++ (32 ∷ 97 ∷ 114 ∷ 114 ∷ 105 ∷ 118 ∷ 101 ∷ 32 ∷ []) ++ decimal arrival ++ (newline ∷ []))
+tripsLine rides arrival = ascii "trips " ++ (decimal rides ++ ascii " arrive " ++ decimal arrival ++ (newline ∷ []))
 
 -- "stop walked to or `-`"
 unfoldable pub walkedWord : ℕ → List ℕ
-walkedWord w = cond (eqb w mark) (45 ∷ []) (decimal w)
+walkedWord w = cond (eqb w mark) (ascii "-") (decimal w)
 
 -- "one line a leg: route, trip, boarding position, leaving position, stop walked to": the five numbers at `at` of the legs table
 unfoldable pub legLine : List ℕ → ℕ → List ℕ
@@ -135,7 +136,7 @@ replyLines x = answerLines (x .answer) (x .legs)
 
 -- the program's own labels and legs begin as zero
 abbrev pub asked : Tables → Question → Reply
-asked T q = replyOf (filled T) (replicate 2304 0) (replicate 320 0) q
+asked T q = replyOf T (replicate 2304 0) (replicate 320 0) q
 
 -- "A line of another shape .. is 12, place 0, once the feed is accepted"
 unfoldable pub questionLines : Tables → Option Question → List ℕ
@@ -145,7 +146,7 @@ questionLines T (some q) = replyLines (asked T q)
 unfoldable pub outcomeLines : Outcome → Option Question → List ℕ
 outcomeLines (Untouched number place) q = refusedLine number place
 outcomeLines (Zeroed number place) q = refusedLine number place
-outcomeLines (Accepted T) q = questionLines T q
+outcomeLines (Accepted T) q = questionLines (filled T) q
 
 unfoldable pub printed : List ℕ → List ℕ → List ℕ
 printed feed input = outcomeLines (readOf feed) (questionOf input)

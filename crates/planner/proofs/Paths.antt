@@ -2,7 +2,7 @@
 use mathlib.Core.Path.{_≡_, refl, sym, ap, _∙_}
 use mathlib.Core.Bool.{true, false}
 use mathlib.Core.List.{List, [], _∷_, _++_}
-use mathlib.Core.Option.{Option, none, some}
+use mathlib.Core.Option.{none}
 use Prim.Native.Nat.{ℕ, _+_, _≤_, _<_}
 use native.Mathlib.Omega.{arith}
 use lib.Dec.{eqb, ltb}
@@ -13,7 +13,7 @@ use Rattle.laws.specs.Lists.{over}
 use Rattle.laws.proofs.Tests.{by-test}
 use Rattle.laws.proofs.Found.{firstFound-never}
 use Rattle.paper.specs.Timetable.{Tables, fullSizes}
-use Rattle.paper.specs.Rules.{Refusal, refusedBy, faultOf, Fit}
+use Rattle.paper.specs.Rules.{Refusal, faultOf, Fit}
 use Rattle.paper.specs.Work.{workOf, passingRound}
 use Rattle.paper.specs.Tie.{entriesOf}
 use Rattle.paper.specs.Reply.{Asking, Kept, Marked, Labelled, Answered, refusal, shortTable, lengthsOf, questionBroken, askOf, searched, refused, answerAs, labelsAfter, legsAfter, replyOf}
@@ -22,7 +22,7 @@ use Rattle.paper.specs.declared.Question.{Question}
 use Rattle.paper.specs.declared.Entry.{Entry}
 use Rattle.paper.specs.declared.Answer.{Answer}
 use Rattle.paper.proofs.Lowest.{given-nothing}
-use Rattle.paper.proofs.Checks.{sound-of, none-of}
+use Rattle.paper.proofs.Checks.{sound-of, none-of, refused-none}
 use Rattle.paper.proofs.Answers.{question-good, ready-asked, no-entry-legs}
 use Rattle.timetable.specs.Places.{faultAs}
 use Rattle.timetable.specs.Needed.{Full}
@@ -32,24 +32,9 @@ use Rattle.rounds.specs.declared.Rounds.{Rounds}
 use Rattle.journeys.specs.ReadBack.{Readable, ReadBack}
 use Rattle.journeys.proofs.Labelled.{good-of}
 use Rattle.planner.specs.Asked.{answerFrom, Replied}
+use Rattle.timetable.proofs.Faults.{refused-some, unbroken-none}
 
 -- what the code's enum says
-pub fault-some : (x : Option Refusal) (n p : ℕ) → faultAs x ≡ Fault.Refused n p → x ≡ some (refusal n p)
-fault-some none n p e = let z : _≡_ {A = ℕ} 0 1 = cc in absurd (omega arith)
-fault-some (some x) n p e =
-    let en : x .number ≡ n = cc in
-    let ep : x .place ≡ p = cc in
-    λ i. some (record { number = en i; place = ep i })
-
-pub fault-none : (x : Option Refusal) → faultAs x ≡ Fault.Unbroken → x ≡ none
-fault-none none e = refl
-fault-none (some x) e = let z : _≡_ {A = ℕ} 0 1 = cc in absurd (omega arith)
-
-unrefused : (n : ℕ) (x : Option ℕ) → refusedBy n x ≡ none → x ≡ none
-unfolding refusedBy
-unrefused n none e = refl
-unrefused n (some p) e = let z : _≡_ {A = ℕ} 0 1 = cc in absurd (omega arith)
-
 passed-same : {m n : ℕ} → Rounds.Passed m ≡ Rounds.Passed n → m ≡ n
 passed-same e = cc
 
@@ -73,18 +58,18 @@ module _ (T : Tables) (labels legs : List ℕ) (q : Question) where
   pub by-short : {n p : ℕ} → Fault.Refused n p ≡ faultAs (shortTable (lengthsOf T ++ (length labels ∷ length legs ∷ []))) →
       {r : Answer} → r ≡ refused (refusal n p) → Replied (replyOf T labels legs q) r labels legs
   unfolding askOf orElse
-  by-short {n} {p} e = kept (refusal n p) (rw (fault-some (shortTable (lengthsOf T ++ (length labels ∷ length legs ∷ []))) n p (sym e)))
+  by-short {n} {p} e = kept (refusal n p) (rw (refused-some (shortTable (lengthsOf T ++ (length labels ∷ length legs ∷ []))) n p e))
 
   module _ (long : Fault.Unbroken ≡ faultAs (shortTable (lengthsOf T ++ (length labels ∷ length legs ∷ [])))) where
     long-enough : shortTable (lengthsOf T ++ (length labels ∷ length legs ∷ [])) ≡ none
-    long-enough = fault-none (shortTable (lengthsOf T ++ (length labels ∷ length legs ∷ []))) (sym long)
+    long-enough = unbroken-none (shortTable (lengthsOf T ++ (length labels ∷ length legs ∷ []))) long
 
     room : (i : ℕ) → i < 7 → getD fullSizes i 0 ≤ getD (lengthsOf T ++ (length labels ∷ length legs ∷ [])) i 0
     unfolding shortTable
     room i l =
         ltb-false (getD (lengthsOf T ++ (length labels ∷ length legs ∷ [])) i 0) (getD fullSizes i 0)
         (given-nothing (ltb (getD (lengthsOf T ++ (length labels ∷ length legs ∷ [])) i 0) (getD fullSizes i 0)) (i + 1)
-        (firstFound-never 7 _ (unrefused 6 _ long-enough) i l))
+        (firstFound-never 7 _ (refused-none 6 _ long-enough) i l))
 
     -- the five tables have their full sizes
     pub full : Full T
@@ -101,13 +86,13 @@ module _ (T : Tables) (labels legs : List ℕ) (q : Question) where
     pub by-fault : {n p : ℕ} → Fault.Refused n p ≡ faultAs (faultOf T) →
         {r : Answer} → r ≡ refused (refusal n p) → Replied (replyOf T labels legs q) r labels legs
     unfolding askOf orElse
-    by-fault {n} {p} e = kept (refusal n p) (rw (long-enough, fault-some (faultOf T) n p (sym e)))
+    by-fault {n} {p} e = kept (refusal n p) (rw (long-enough, refused-some (faultOf T) n p e))
 
     module _ (sound : Fault.Unbroken ≡ faultAs (faultOf T)) where
       -- 12
       pub by-question : questionBroken T q ≡ true → {r : Answer} → r ≡ refused (refusal 12 0) → Replied (replyOf T labels legs q) r labels legs
       unfolding askOf orElse given
-      by-question e = kept (refusal 12 0) (rw (long-enough, fault-none (faultOf T) (sym sound), e))
+      by-question e = kept (refusal 12 0) (rw (long-enough, unbroken-none (faultOf T) sound, e))
 
       -- nothing before 13 refuses
       pub ready : questionBroken T q ≡ false → Ready T labels legs q
@@ -121,7 +106,7 @@ module _ (T : Tables) (labels legs : List ℕ) (q : Question) where
             t5≥ = room 4 (omega arith);
             labels≥ = room 5 (omega arith);
             legs≥ = room 6 (omega arith);
-            sound = sound-of T (fault-none (faultOf T) (sym sound));
+            sound = sound-of T (unbroken-none (faultOf T) sound);
             start< = g .asked .start<;
             target< = g .asked .target<;
             time< = g .asked .time<;

@@ -12,6 +12,7 @@ use paper::Entry;
 use paper::Heads;
 use paper::Question;
 use paper::Verdict;
+use places::Place;
 use rounds::Rounds;
 use timetable::Fault;
 
@@ -57,20 +58,9 @@ fn short_table(
 ) -> Fault
     ensures { λ r. ⌜ r ≡ faultAs (shortTable (routes ∷ positions ∷ arrivals ∷ departures ∷ walks ∷ labels ∷ legs ∷ [])) ⌝ }
 {
-    if routes < 256 {
-        return Fault::Refused(6, 1);
-    }
-    if positions < 2048 {
-        return Fault::Refused(6, 2);
-    }
-    if arrivals < 2048 {
-        return Fault::Refused(6, 3);
-    }
-    if departures < 2048 {
-        return Fault::Refused(6, 4);
-    }
-    if walks < 1536 {
-        return Fault::Refused(6, 5);
+    let short = timetable::short_table(routes, positions, arrivals, departures, walks);
+    if let Place::At(table) = short {
+        return Fault::Refused(6, table);
     }
     if labels < 2304 {
         return Fault::Refused(6, 6);

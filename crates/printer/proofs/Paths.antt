@@ -12,20 +12,20 @@ use Rattle.laws.specs.Lists.{over}
 use Rattle.laws.proofs.Below.{anyBelow-all-false}
 use Rattle.paper.specs.Timetable.{Tables, tables}
 use Rattle.paper.specs.Reading.{Outcome, Untouched, Zeroed, Accepted, readOf, cleared}
-use Rattle.paper.specs.Reply.{Reply, zeroEntry, readInto, readingOf, replyOf}
-use Rattle.paper.specs.Lines.{refusedLine, answerLines, replyLines, filled, questionLines, outcomeLines, questionOf, printed}
+use Rattle.paper.specs.Reply.{zeroEntry, readInto, readingOf}
+use Rattle.paper.specs.Lines.{refusedLine, answerLines, replyLines, asked, questionLines, outcomeLines, questionOf, printed}
 use Rattle.paper.specs.declared.Heads.{Heads}
 use Rattle.paper.specs.declared.Question.{Question}
 use Rattle.paper.specs.declared.Reading.{Reading}
 use Rattle.paper.specs.declared.Answer.{Answer}
 use Rattle.feed.specs.State.{Leaves}
 use Rattle.planner.specs.Asked.{Replied}
-use Rattle.dialogue.specs.Asking.{askedOf}
-use Rattle.dialogue.specs.Printing.{overlong, printable, Prints, Rendered}
-use Rattle.dialogue.specs.declared.Asked.{Asked}
-use Rattle.dialogue.specs.declared.Printed.{Printed}
-use Rattle.dialogue.proofs.Prints.{is-printable}
-use Rattle.printer.specs.Says.{Says, heldAnswer, heldLines}
+use Rattle.question_line.specs.Asking.{askedOf}
+use Rattle.answer_lines.specs.Printing.{overlong, printable, Prints, Rendered}
+use Rattle.question_line.specs.declared.Asked.{Asked}
+use Rattle.answer_lines.specs.declared.Printed.{Printed}
+use Rattle.answer_lines.proofs.Prints.{is-printable}
+use Rattle.printer.specs.Says.{Says}
 use Rattle.paper.proofs.Printing.{Few, reply-few, reply-legs, read-full}
 
 -- ---- lines in the front of the buffer
@@ -76,25 +76,23 @@ line-none none e = refl
 line-none (some y) e = let z : _≡_ {A = ℕ} 0 1 = cc in absurd (omega arith)
 
 -- a line of another shape
-pub unread-says : (T : Tables) (input : List ℕ) {d e : List ℕ} {n : ℕ} → Asked.Unreadable ≡ askedOf (questionOf input) → Says (refusedLine 12 0) d e n → Says (heldLines T input) d e n
+pub unread-says : (T : Tables) (input : List ℕ) {d e : List ℕ} {n : ℕ} → Asked.Unreadable ≡ askedOf (questionOf input) → Says (refusedLine 12 0) d e n → Says (questionLines T (questionOf input)) d e n
+unfolding questionLines
 unread-says T input o s = rw (line-none (questionOf input) o) s
 
-abbrev heldReply : Tables → Question → Reply
-heldReply T q = replyOf T (replicate 2304 0) (replicate 320 0) q
-
 module _ (T : Tables) (q : Question) (d : List ℕ) (h : 4311 ≤ length d) where
-  reply-fits : printable (heldReply T q .answer) (heldReply T q .legs) d ≡ true
+  reply-fits : printable (asked T q .answer) (asked T q .legs) d ≡ true
   reply-fits =
       let f = reply-few T q (replicate 2304 0) (replicate 320 0) in
       let l = reply-legs T q (replicate 2304 0) (replicate 320 0) (rw length-replicate (omega arith)) ∙ length-replicate {A = ℕ} 320 0 in
-      is-printable (heldReply T q .answer) (heldReply T q .legs) d h (omega arith) (f .nine) (few-short f)
+      is-printable (asked T q .answer) (asked T q .legs) d h (omega arith) (f .nine) (few-short f)
 
-  module _ {a : Answer} {labels legs e : List ℕ} {r : Printed} (x : Replied (heldReply T q) a labels legs) (p : Rendered a legs d e r) where
+  module _ {a : Answer} {labels legs e : List ℕ} {r : Printed} (x : Replied (asked T q) a labels legs) (p : Rendered a legs d e r) where
     asked-fits : printable a legs d ≡ true
     asked-fits = rw (x .answer-is, x .legs-are) reply-fits
 
-    pub asked-says : (input : List ℕ) {n : ℕ} → Asked.Line q ≡ askedOf (questionOf input) → r ≡ Printed.Done n → Says (heldLines T input) d e n
-    unfolding replyLines
+    pub asked-says : (input : List ℕ) {n : ℕ} → Asked.Line q ≡ askedOf (questionOf input) → r ≡ Printed.Done n → Says (questionLines T (questionOf input)) d e n
+    unfolding questionLines replyLines
     asked-says input {n} o g =
         let s : Says (answerLines a legs) d e n = printed-says asked-fits p g in
         rw (line-some (questionOf input) o, ← x .answer-is, ← x .legs-are) s
@@ -108,11 +106,6 @@ cleared-zero : (k : ℕ) → cleared k (replicate k 0) ≡ replicate k 0
 cleared-zero k =
     ap (λ (r : List ℕ). replicate k 0 ++ r) (drop-of-length-le (replicate k 0) {i = k} (omega (arith, length-replicate {A = ℕ} k 0))) ∙ append-nil (replicate k 0)
 
-held-lines : (T : Tables) (x : Option Question) → heldAnswer (filled T) x ≡ questionLines T x
-unfolding questionLines
-held-lines T none = refl
-held-lines T (some q) = refl
-
 abbrev zeros : ℕ → List ℕ
 zeros k = replicate k 0
 
@@ -124,7 +117,7 @@ held-table k xs e = e ∙ ap (λ (r : List ℕ). over xs r) (cleared-zero k)
 
 -- the tables hold the timetable that was accepted
 held-outcome : (o : Outcome) (x : Option Question) {k : Heads} {h p a d g : List ℕ} → Leaves o (Reading.Done k) (zeros 256) h (zeros 2048) p (zeros 2048) a (zeros 2048) d (zeros 1536) g →
-    heldAnswer (tables k h p a d g) x ≡ outcomeLines o x
+    questionLines (tables k h p a d g) x ≡ outcomeLines o x
 unfolding outcomeLines
 held-outcome (Untouched n i) x l = let e = l .answer in let z : _≡_ {A = ℕ} 0 1 = cc in absurd (omega arith)
 held-outcome (Zeroed n i) x l = let e = l .answer in let z : _≡_ {A = ℕ} 0 1 = cc in absurd (omega arith)
@@ -137,7 +130,7 @@ held-outcome (Accepted T) x {k} {h} {p} {a} {d} {g} l =
     let a= = held-table 2048 (T .t3) (l .arrivals) in
     let d= = held-table 2048 (T .t4) (l .departures) in
     let g= = held-table 1536 (T .t5) (l .walks) in
-    (λ i. heldAnswer (tables (k= i) (h= i) (p= i) (a= i) (d= i) (g= i)) x) ∙ held-lines T x
+    λ i. questionLines (tables (k= i) (h= i) (p= i) (a= i) (d= i) (g= i)) x
 
 -- the refusal's number and place
 refused-outcome : (o : Outcome) (x : Option Question) {n i : ℕ} → Reading.Refused n i ≡ readingOf o → outcomeLines o x ≡ refusedLine n i
@@ -157,6 +150,6 @@ module _ (f input : List ℕ) {h p a d g : List ℕ} {r : Reading}
   unfolding printed
   refused-says o s = rw (refused-outcome (readOf f) (questionOf input) (sym o ∙ read-leaves .answer)) s
 
-  pub accepted-says : {t : Heads} {b e : List ℕ} {k : ℕ} → r ≡ Reading.Done t → Says (heldLines (tables t h p a d g) input) b e k → Says (printed f input) b e k
+  pub accepted-says : {t : Heads} {b e : List ℕ} {k : ℕ} → r ≡ Reading.Done t → Says (questionLines (tables t h p a d g) (questionOf input)) b e k → Says (printed f input) b e k
   unfolding printed
   accepted-says o s = rw (← held-outcome (readOf f) (questionOf input) (rw o at read-leaves)) s

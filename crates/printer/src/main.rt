@@ -2,22 +2,22 @@
 ghost use Prim.Native.Nat.{_≤_};
 ghost use lib.ListN.{length};
 ghost use Rattle.paper.specs.Timetable.{lent};
-ghost use Rattle.paper.specs.Lines.{refusedLine, printed};
+ghost use Rattle.paper.specs.Lines.{refusedLine, questionOf, questionLines, printed};
 ghost use Rattle.io.specs.Counts.{Counts};
-ghost use Rattle.printer.specs.Says.{Says, heldLines};
-use dialogue::Asked;
-use dialogue::Printed;
+ghost use Rattle.printer.specs.Says.{Says};
+use answer_lines::Printed;
 use libc::STDIN_FILENO;
 use libc::STDOUT_FILENO;
 use paper::Heads;
 use paper::Reading;
+use question_line::Asked;
 
 // A refusal's line, and its length.
 fn refuse(number: u32, place: u32, out: &mut [u8]) -> usize
     requires { ⌜ 4311 ≤ length (now out) ⌝ }
     ensures { λ r. ⌜ Says (refusedLine number place) (now (out .entry)) (now (out .exit)) r ⌝ }
 {
-    match dialogue::render_refusal(number, place, out) {
+    match answer_lines::render_refusal(number, place, out) {
         Printed::Done(n) => n,
         Printed::TooShort => 0,
     }
@@ -35,9 +35,9 @@ fn answer(
     out: &mut [u8],
 ) -> usize
     requires { ⌜ 4311 ≤ length (now out) ⌝ }
-    ensures { λ r. ⌜ Says (heldLines (lent heads (routes .entry) (positions .entry) (arrivals .entry) (departures .entry) (walks .entry)) (now (input .entry))) (now (out .entry)) (now (out .exit)) r ⌝ }
+    ensures { λ r. ⌜ Says (questionLines (lent heads (routes .entry) (positions .entry) (arrivals .entry) (departures .entry) (walks .entry)) (questionOf (now (input .entry)))) (now (out .entry)) (now (out .exit)) r ⌝ }
 {
-    let asked = dialogue::parse(input);
+    let asked = question_line::parse(input);
     let Asked::Line(q) = asked else {
         return refuse(12, 0, out);
     };
@@ -54,7 +54,7 @@ fn answer(
         &mut legs,
         q,
     );
-    match dialogue::render(found, &legs, out) {
+    match answer_lines::render(found, &legs, out) {
         Printed::Done(n) => n,
         Printed::TooShort => 0,
     }

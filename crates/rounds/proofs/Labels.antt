@@ -1,27 +1,28 @@
 -- The nine rows in the lent labels: which stand there after k rounds, and what the last ones make of the table.
-use mathlib.Core.Path.{_≡_, refl, sym, ap, _∙_}
+use mathlib.Core.Path.{_≡_, sym, ap, _∙_}
 use mathlib.Core.Logic.{_≢_}
 use mathlib.Core.Bool.{cond}
 use mathlib.Core.List.{List}
-use Prim.Native.Nat.{ℕ, zero, suc, _+_, _*_, _-_, _/_, _%_, _≤_, _<_}
+use Prim.Native.Nat.{ℕ, suc, _+_, _*_, _-_, _/_, _%_, _≤_, _<_}
 use native.Mathlib.Nat.{div-add-mod', mod-lt, mul-add-mod-self-right, mod-eq-of-lt}
 use native.Mathlib.Omega.{arith}
-use borrow.Author.Tests.{le-leb, lt-leb, eq-eqb, ne-eqb, eqb-true, eqb-false}
+use borrow.Author.Tests.{le-leb, lt-leb, ne-eqb, eqb-true, eqb-false}
 use lib.Dec.{eqb, leb}
 use lib.ListN.{length, getD, set, replicate, length-set, length-replicate, getD-replicate}
 use lib.Seq.{ext-getD, getD-set-same, getD-set-other}
-use Rattle.laws.specs.Below.{mark, only}
+use Rattle.laws.specs.Below.{mark}
 use Rattle.laws.specs.Lists.{over, written}
 use Rattle.laws.proofs.Tests.{by-test, by-lt}
-use Rattle.laws.proofs.Below.{only-true, only-false}
+use Rattle.laws.proofs.Below.{only-false}
 use Rattle.laws.proofs.Lists.{length-tab, getD-tab, length-pieces, getD-pieces, length-part-of, getD-part, length-over, getD-over, getD-over-past, written-length, written-before, written-at, written-after}
 use Rattle.paper.specs.Timetable.{Tables}
-use Rattle.paper.specs.Rows.{label, firstRow, nextRow, rowOf}
+use Rattle.paper.specs.Rows.{label, nextRow, rowOf}
 use Rattle.paper.specs.Reply.{labelsTable}
 use Rattle.paper.specs.declared.Question.{Question}
-use Rattle.paper.proofs.Steps.{label-tab, label-out}
+use Rattle.paper.proofs.Steps.{label-out}
 use Rattle.rounds.specs.Round.{rowIn, settled, filled}
-use Rattle.rounds.proofs.Looking.{label-in}
+use Rattle.scan.proofs.Looking.{label-in}
+use Rattle.paper.proofs.Earliest.{length-row, label-zero, row-start}
 
 module _ (T : Tables) (q : Question) where
   -- what stands at stop s of row j once rows 0 to k are written
@@ -36,14 +37,9 @@ module _ (T : Tables) (q : Question) where
   unfolding cellOf
   cell-mark k j s h = rw (lt-leb j k h)
 
-  pub row-size : (k : ℕ) → length (rowOf T q k) ≡ T .stops
-  unfolding rowOf firstRow nextRow
-  row-size zero = length-tab (T .stops) _
-  row-size (suc k) = length-tab (T .stops) _
-
   -- past the stops stands the mark
   pub row-past : (k s : ℕ) → T .stops ≤ s → label (rowOf T q k) s ≡ mark
-  row-past k s h = label-out (rowOf T q k) s (rw row-size h)
+  row-past k s h = label-out (rowOf T q k) s (rw (length-row T q k) h)
 
 -- rows 0 to k stand in d, and what lies beyond the full size is as it was in d₀
 pub record Rows (T : Tables) (q : Question) (k : ℕ) (d₀ d : List ℕ) : Type 0 where
@@ -76,18 +72,11 @@ module _ (d : List ℕ) (room : 2304 ≤ length d) where
 module _ (T : Tables) (q : Question) (d₀ : List ℕ) (few : T .stops ≤ 256) (room : 2304 ≤ length d₀) where
   -- ---- row 0
 
-  first-label : (s : ℕ) → s < T .stops → label (rowOf T q 0) s ≡ only (eqb s (q .start)) (q .time)
-  unfolding rowOf firstRow
-  first-label s h = label-tab (T .stops) (λ s. only (eqb s (q .start)) (q .time)) s h
-
   first-off : (s : ℕ) → s ≢ q .start → label (rowOf T q 0) s ≡ mark
   first-off s ne =
       by-lt s (T .stops)
-      (λ h. first-label s h ∙ only-false (eqb s (q .start)) (q .time) (ne-eqb s (q .start) ne))
+      (λ h. label-zero T q s h ∙ only-false (eqb s (q .start)) (q .time) (ne-eqb s (q .start) ne))
       (λ h. row-past T q 0 s h)
-
-  first-at : q .start < T .stops → label (rowOf T q 0) (q .start) ≡ q .time
-  first-at h = first-label (q .start) h ∙ only-true (eqb (q .start) (q .start)) (q .time) (eq-eqb (q .start) (q .start) refl)
 
   module _ (h : q .start < T .stops) where
     first-cell : (j s : ℕ) → j < 9 → s < 256 → getD (set (filled d₀) (q .start) (q .time)) (j * 256 + s) 0 ≡ cellOf T q 0 j s
@@ -97,7 +86,7 @@ module _ (T : Tables) (q : Question) (d₀ : List ℕ) (few : T .stops ≤ 256) 
         let z : j ≡ 0 = omega arith in
         let y : s ≡ q .start = omega arith in
         rw (e, getD-set-same (filled d₀) (q .start) (q .time) 0 (omega (arith, filled-long d₀ room)))
-        (sym (cell-row T q 0 j s (omega arith) ∙ rw (z, y) (first-at h))))
+        (sym (cell-row T q 0 j s (omega arith) ∙ rw (z, y) (row-start T q h))))
         (λ t. let ne = eqb-false (j * 256 + s) (q .start) t in
         getD-set-other (filled d₀) (q .start) (j * 256 + s) (q .time) 0 ne
         ∙ filled-at d₀ room (j * 256 + s) (omega arith)
@@ -120,12 +109,12 @@ module _ (T : Tables) (q : Question) (d₀ : List ℕ) (few : T .stops ≤ 256) 
     pub row-is : k < 9 → rowIn d k (T .stops) ≡ rowOf T q k
     row-is h =
         let long : length (rowIn d k (T .stops)) ≡ T .stops = length-part-of d (k * 256) (T .stops) (omega (arith, rows .long)) in
-        ext-getD 0 (rowIn d k (T .stops)) (rowOf T q k) (long ∙ sym (row-size T q k))
+        ext-getD 0 (rowIn d k (T .stops)) (rowOf T q k) (long ∙ sym (length-row T q k))
         (λ i l. let b : i < T .stops = omega arith in
         getD-part d (k * 256) (k * 256 + T .stops) i 0 (omega arith)
         ∙ rows .cell k i h (omega arith)
         ∙ cell-row T q k k i (omega arith)
-        ∙ sym (label-in (rowOf T q k) i (omega (arith, row-size T q k))))
+        ∙ sym (label-in (rowOf T q k) i (omega (arith, length-row T q k))))
 
     module _ {d′ : List ℕ} (h : k < 8) (e : d′ ≡ written d (k * 256 + 256) (label (nextRow T (rowIn d k (T .stops)))) (T .stops)) where
       next : ℕ → ℕ

@@ -17,12 +17,12 @@ use Rattle.paper.specs.Timetable.{Tables, routeOf, walkFrom, walkTo, walkSecond
 use Rattle.paper.specs.Rows.{label, rideOn, rideTo, ridesFrom, walkIn, nextRow}
 use Rattle.paper.specs.Work.{roundCost, improves}
 use Rattle.paper.proofs.Steps.{label-rides, label-next}
-use Rattle.rounds.specs.Look.{routesIn, rideBelow, looksBelow, Ridden}
-use Rattle.rounds.specs.Walk.{walkBelow, Walked}
+use Rattle.scan.specs.Look.{routesIn, rideBelow, looksBelow, Ridden}
+use Rattle.scan.specs.Walk.{walkBelow, Walked}
 use Rattle.rounds.specs.Round.{rowIn, brought, bettered, RowWritten, RoundAsked, RoundDone}
-use Rattle.rounds.proofs.Looking.{label-in}
-use Rattle.rounds.proofs.Fitting.{same-route, rideable}
-use Rattle.rounds.proofs.Riding.{looks-le}
+use Rattle.scan.proofs.Looking.{label-in}
+use Rattle.scan.proofs.Fitting.{same-route, rideable}
+use Rattle.scan.proofs.Riding.{looks-le}
 
 -- what is lowered starts as marks
 abbrev pub marks : List ℕ

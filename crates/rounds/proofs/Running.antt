@@ -20,9 +20,11 @@ use Rattle.paper.proofs.Rounds.{stopped, work-mono, passing-is, rounds-reach, r
 use Rattle.rounds.specs.Round.{rowIn, RoundAsked, RoundDone, Settling, settled, filled}
 use Rattle.rounds.specs.Run.{Asked, roundsOf, labelsLeft, Ran}
 use Rattle.rounds.specs.declared.Rounds.{Rounds}
-use Rattle.rounds.proofs.Riding.{sum-most}
+use Rattle.scan.proofs.Riding.{sum-most}
 use Rattle.rounds.proofs.Rounding.{cost-few}
-use Rattle.rounds.proofs.Labels.{Rows, row-size, filled-long, rows-start, row-is, rows-step, rows-settled, rows-filled, rows-end}
+use Rattle.rounds.proofs.Labels.{Rows, filled-long, rows-start, row-is, rows-step, rows-settled, rows-filled, rows-end}
+use Rattle.laws.proofs.Checking.{or-none}
+use Rattle.paper.proofs.Earliest.{length-row}
 
 -- k rounds are run, all improved a stop, and their work is within the budget
 pub record Running (T : Tables) (q : Question) (labels₀ labels : List ℕ) (work k : ℕ) : Type 0 where
@@ -31,10 +33,6 @@ pub record Running (T : Tables) (q : Question) (labels₀ labels : List ℕ) (wo
   pub work-is : work ≡ workTo T q k
   pub within : work ≤ q .budget
   pub improving : (j : ℕ) → j < k → improves T (rowOf T q j) ≡ true
-
-or-none : (a b : Bool) → (a || b) ≡ false → (a ≡ false) × (b ≡ false)
-or-none true b e = both-ways refl e
-or-none false b e = (refl, e)
 
 module _ (T : Tables) (q : Question) (labels₀ : List ℕ) (asked : Asked T q labels₀) where
   pub start< : q .start < T .stops
@@ -134,7 +132,7 @@ module _ (T : Tables) (q : Question) (labels₀ : List ℕ) (asked : Asked T q l
         pub work-small : work + w ≤ 320000
         unfolding workTo
         work-small =
-            let m = sum-most (k + 1) (λ j. roundCost T (rowOf T q j)) 40000 (λ j l. cost-few T (asked .fit) (rowOf T q j) (row-size T q j)) in
+            let m = sum-most (k + 1) (λ j. roundCost T (rowOf T q j)) 40000 (λ j l. cost-few T (asked .fit) (rowOf T q j) (length-row T q j)) in
             omega (arith, work-next, limit≤)
 
         rows-next : Rows T q (k + 1) labels₀ labels′
@@ -143,11 +141,14 @@ module _ (T : Tables) (q : Question) (labels₀ : List ℕ) (asked : Asked T q l
         pub next-long : length labels′ ≡ length labels₀
         next-long = rows-next .long
 
-        pub settling : Settling (length labels′) (k + 1) (q .limit)
-        settling = record { room = omega (arith, next-long, asked .room); below = omega arith; few = limit≤ }
+        pub still-room : 2304 ≤ length labels′
+        still-room = omega (arith, next-long, asked .room)
+
+        pub settling : {limit : ℕ} → k + 1 ≤ limit → limit ≤ q .limit → Settling (length labels′) (k + 1) limit
+        settling l m = record { room = still-room; below = l; few = omega (arith, limit≤) }
 
         pub passed-long : {labels″ : List ℕ} → labels″ ≡ filled labels′ → length labels″ ≡ length labels₀
-        passed-long e = ap length e ∙ filled-long labels′ (omega (arith, next-long, asked .room)) ∙ next-long
+        passed-long e = ap length e ∙ filled-long labels′ still-room ∙ next-long
 
         improved-is : improved ≡ improves T (rowOf T q k)
         improved-is = rw row at (done .improved-is)
@@ -163,8 +164,8 @@ module _ (T : Tables) (q : Question) (labels₀ : List ℕ) (asked : Asked T q l
             let z = passing-is T q (k + 1) (omega arith) p (λ j l. omega (arith, work-mono T q j k (omega arith), ru .work-is, ru .within)) in
             record { answer-is = rw (t, z); labels-are = rw t (rows-filled T q labels₀ few (asked .room) rows-next e) }
 
-        -- the round improved no stop
-        module _ {labels″ : List ℕ} (i : improved ≡ false) (e : labels″ ≡ settled labels′ (k + 1) (q .limit)) where
+        -- the round improved no stop, and the rows up to some limit equal it
+        module _ {limit : ℕ} (l : k + 1 ≤ limit) (m : limit ≤ q .limit) {labels″ : List ℕ} (i : improved ≡ false) (e : labels″ ≡ settled labels′ (k + 1) limit) where
           none : improves T (rowOf T q k) ≡ false
           none = sym improved-is ∙ i
 
@@ -173,17 +174,17 @@ module _ (T : Tables) (q : Question) (labels₀ : List ℕ) (asked : Asked T q l
               let one : rowOf T q (k + 1) ≡ rowOf T q k = ap (rowOf T q) (omega arith) ∙ stopped T q k 1 none in
               ap (rowOf T q) (omega arith) ∙ stopped T q k (j - k) none ∙ sym one
 
-          rows-last : Rows T q (q .limit) labels₀ labels″
-          rows-last = rows-settled T q labels₀ few (asked .room) rows-next (omega arith) limit≤ same e
+          rows-last : Rows T q limit labels₀ labels″
+          rows-last = rows-settled T q labels₀ few (asked .room) rows-next l (omega (arith, limit≤)) same e
 
           pub stopped-long : length labels″ ≡ length labels₀
           stopped-long = rows-last .long
 
-          pub run-stopped : work + w ≤ q .budget → Ran T q labels₀ labels″ (Rounds.Within (work + w))
+          pub run-stopped : limit ≡ q .limit → work + w ≤ q .budget → Ran T q labels₀ labels″ (Rounds.Within (work + w))
           unfolding workOf
-          run-stopped b =
+          run-stopped all b =
               let z : roundsRun T q ≡ k + 1 = rounds-end T q k h (ru .improving) none ∙ sym (add-one k) in
-              ended (work-next ∙ ap (workTo T q) (sym z)) b rows-last
+              ended (work-next ∙ ap (workTo T q) (sym z)) b (rw all at rows-last)
 
         pub running-step : work + w ≤ q .budget → improved ≡ true → Running T q labels₀ labels′ (work + w) (k + 1)
         running-step b i =

@@ -1,5 +1,3 @@
--- What the contracts of `rounds` cite: one look at a route, the walks, a row, a round, and the promise of `run`.
-pub mod Look
-pub mod Walk
+-- What the contracts of `rounds` cite: a row, a round, and the promise of `run`.
 pub mod Round
 pub mod Run

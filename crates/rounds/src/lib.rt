@@ -1,28 +1,18 @@
-// Labels and work, round by round. The count is kept where the scan compares a departure (`board`) and where it looks at a walk (`walk`).
+// Labels and work, round by round. What a round looks at is counted by crate `scan`.
 ghost use Rattle.paper.specs.Timetable.{lent};
 ghost use Rattle.rounds.specs.Round.{RoundAsked, RoundDone};
 ghost use Rattle.rounds.specs.Run.{Asked, Ran};
 
-mod routes;
 mod rows;
-mod walks;
 
-use crate::routes::ride;
 use crate::rows::fill;
 use crate::rows::settle;
 use crate::rows::write_row;
-use crate::walks::walk;
 use paper::Heads;
 use paper::Question;
-
-// Unreached.
-pub const MARK: u32 = 4294967295;
-
-// The trip that is caught after a position, and the departures compared there.
-pub struct Caught {
-    pub trip: usize,
-    pub work: u32,
-}
+use scan::MARK;
+use scan::routes::ride;
+use scan::walks::walk;
 
 // What a round cost, and whether it improved a stop.
 pub struct Progress {

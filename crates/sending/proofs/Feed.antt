@@ -7,13 +7,15 @@ use native.Mathlib.Omega.{arith}
 use lib.ListN.{length, getD, take, length-append}
 use Rattle.laws.specs.Below.{sumBelow}
 use Rattle.laws.specs.Lists.{part}
-use Rattle.laws.proofs.Below.{sumBelow-same, sumBelow-at}
+use Rattle.laws.proofs.Below.{sumBelow-same}
 use Rattle.laws.proofs.Lists.{length-pieces-sum, getD-part}
-use Rattle.paper.specs.Timetable.{Tables, tables, nOf, mOf, firstPosition, firstEvent, positionsTo, eventsTo, routeOf}
+use Rattle.paper.specs.Timetable.{Tables, tables, nOf, mOf, firstPosition, firstEvent, routeOf}
 use Rattle.paper.specs.Feed.{tripBytes, routeBytes, routesBytes, walkBytes, walksBytes, sizeOf, summed, fletcherOf, feedOf}
 use Rattle.paper.specs.declared.Heads.{Heads}
+use Rattle.paper.specs.Rules.{Fit}
+use Rattle.paper.proofs.RouteEnds.{route-positions, head-in, positions-in, arrivals-in, departures-in}
 use Rattle.paper.proofs.Written.{length-route, length-walks, size-is, longest}
-use Rattle.sending.specs.Puts.{Puts, ofRoutes, ofWalks, RouteFits, RoutesRoom, WalkFits, WalksRoom, headOf, HeadFits, endOf, routeSize, sizeBy, SizeFits, Writable, FeedFits}
+use Rattle.sending.specs.Puts.{Puts, ofRoutes, ofWalks, RouteFits, RoutesRoom, WalkFits, WalksRoom, headOf, HeadFits, endOf, routeSize, sizeBy, SizeFits, FeedFits}
 use Rattle.sending.proofs.Sent.{puts-length, puts-take, puts-then, puts-same}
 
 -- ---- what a sound timetable's numbers fit
@@ -31,34 +33,26 @@ module _ (n m : ℕ) (t : List ℕ) (v bound : ℕ) (some : 0 < n)
       let g : getD (part v (v + n * m) t) x 0 ≡ getD t (v + x) 0 = getD-part t v (v + n * m) x 0 (omega arith) in
       rw g at (rw e at h)
 
-module _ {T : Tables} (w : Writable T) where
-  positions-in : (r : ℕ) → r < T .routes → firstPosition T r + nOf T r ≤ positionsTo T (T .routes)
-  unfolding positionsTo
-  positions-in r l = omega (arith, w .sound .route r l .first-position, sumBelow-at (T .routes) r (nOf T) l)
-
-  events-in : (r : ℕ) → r < T .routes → firstEvent T r + nOf T r * mOf T r ≤ eventsTo T (T .routes)
-  unfolding eventsTo
-  events-in r l = omega (arith, w .sound .route r l .first-event, sumBelow-at (T .routes) r (λ r. nOf T r * mOf T r) l)
-
+module _ {T : Tables} (w : Fit T) where
   pub route-fits : (r : ℕ) → r < T .routes → RouteFits (ofRoutes (T .t1) (T .t2) (T .t3) (T .t4)) r
   unfolding routeOf
   route-fits r l =
       let c = w .sound .route r l in
       record {
-        row = omega (arith, w .rows);
+        row = omega (arith, head-in T w r l);
         n≤ = c .n≤;
         m≤ = c .m≤;
         stops = record {
-          there = omega (arith, positions-in r l, w .positions);
-          each = λ i k. omega (arith, w .sound .stop< (firstPosition T r + i) (omega (arith, positions-in r l)), w .sound .stops≤);
+          there = positions-in T w r l;
+          each = λ i k. omega (arith, w .sound .stop< (firstPosition T r + i) (omega (arith, route-positions T (w .sound) r l)), w .sound .stops≤);
         };
         arrivals = record {
-          there = omega (arith, events-in r l, w .arrivals);
+          there = arrivals-in T w r l;
           each = all-cells (nOf T r) (mOf T r) (T .t3) (firstEvent T r) 16777216 (omega (arith, c .n≥))
               (λ j i a b. let h = w .sound .times r j i l a b .arrive< in omega arith);
         };
         departures = record {
-          there = omega (arith, events-in r l, w .departures);
+          there = departures-in T w r l;
           each = all-cells (nOf T r) (mOf T r) (T .t4) (firstEvent T r) 16777216 (omega (arith, c .n≥))
               (λ j i a b. let h = w .sound .times r j i l a b .depart< in omega arith);
         };
@@ -68,7 +62,7 @@ module _ {T : Tables} (w : Writable T) where
   walk-fits k l =
       let c = w .sound .walk k l in
       record {
-        row = omega (arith, w .walks);
+        row = omega (arith, w .sound .walks≤, w .walks-room);
         from< = omega (arith, c .from<, w .sound .stops≤);
         to< = omega (arith, c .to<, w .sound .stops≤);
         seconds< = omega (arith, c .seconds≤);
@@ -77,7 +71,7 @@ module _ {T : Tables} (w : Writable T) where
   pub size-fits : SizeFits (ofRoutes (T .t1) [] [] []) (T .routes) (T .walks)
   size-fits =
       record {
-        rows = w .rows;
+        rows = omega (arith, w .sound .routes≤, w .routes-room);
         routes≤ = w .sound .routes≤;
         walks≤ = w .sound .walks≤;
         route = λ r l. record { n≤ = w .sound .route r l .n≤; m≤ = w .sound .route r l .m≤ };
@@ -90,7 +84,7 @@ module _ {T : Tables} (w : Writable T) where
   size-by =
       let s : sumBelow (T .routes) (λ r. length (routeBytes T r)) ≡ sumBelow (T .routes) (routeSize (ofRoutes (T .t1) [] [] []))
       = sumBelow-same (T .routes) (λ r. length (routeBytes T r)) (routeSize (ofRoutes (T .t1) [] [] []))
-      (λ r l. length-route T r (omega (arith, positions-in r l, w .positions))) in
+      (λ r l. length-route T r (positions-in T w r l)) in
       omega (arith, s, length-pieces-sum (T .routes) (routeBytes T), length-walks T (T .walks))
 
   pub size-small : sizeOf T ≤ 17869
@@ -123,20 +117,20 @@ module _ {h : Heads} {t1 t2 t3 t4 t5 out : List ℕ} {size : ℕ} (pre : FeedFit
   pub can-head : HeadFits h size out
   can-head =
       record {
-        stops≥ = pre .writable .sound .stops≥;
-        stops≤ = pre .writable .sound .stops≤;
-        routes≤ = pre .writable .sound .routes≤;
-        walks≤ = pre .writable .sound .walks≤;
-        size< = omega (arith, pre .is, size-small (pre .writable));
+        stops≥ = pre .fit .sound .stops≥;
+        stops≤ = pre .fit .sound .stops≤;
+        routes≤ = pre .fit .sound .routes≤;
+        walks≤ = pre .fit .sound .walks≤;
+        size< = omega (arith, pre .is, size-small (pre .fit));
         room = omega (arith, room);
       }
 
   pub can-routes : {q : ℕ} {o : List ℕ} → Puts (headOf h size) 0 out q o → RoutesRoom (ofRoutes t1 t2 t3 t4) (h .routes) q o
-  can-routes s = record { fits = route-fits (pre .writable); room = omega (arith, room, s .next, puts-length s) }
+  can-routes s = record { fits = route-fits (pre .fit); room = omega (arith, room, s .next, puts-length s) }
 
   pub can-walks : {q : ℕ} {o : List ℕ} → Puts (headOf h size ++ routesPart) 0 out q o → WalksRoom (ofWalks t5) (h .walks) q o
   can-walks s =
-      record { fits = walk-fits (pre .writable); room = omega (arith, room, s .next, puts-length s, length-append (headOf h size) routesPart) }
+      record { fits = walk-fits (pre .fit); room = omega (arith, room, s .next, puts-length s, length-append (headOf h size) routesPart) }
 
   pub can-end : {q : ℕ} {o : List ℕ} → Puts (headOf h size ++ (routesPart ++ walksPart)) 0 out q o → q + 4 ≤ length o
   can-end s =

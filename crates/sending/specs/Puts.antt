@@ -6,8 +6,8 @@ use lib.ListN.{length, getD, take}
 use Rattle.laws.specs.Below.{sumBelow}
 use Rattle.laws.specs.Lists.{over, pieces}
 use Rattle.laws.specs.Fields.{twoBytes}
-use Rattle.paper.specs.Timetable.{Tables, nOf, mOf, firstPosition, firstEvent, walkFrom, walkTo, walkSeconds, positionsTo, eventsTo}
-use Rattle.paper.specs.Rules.{Sound}
+use Rattle.paper.specs.Timetable.{Tables, nOf, mOf, firstPosition, firstEvent, walkFrom, walkTo, walkSeconds}
+use Rattle.paper.specs.Rules.{Fit}
 use Rattle.paper.specs.Feed.{tripBytes, routeBytes, routesBytes, walkBytes, walksBytes, sizeOf, fletcherOf}
 use Rattle.paper.specs.declared.Heads.{Heads}
 
@@ -131,17 +131,8 @@ pub record SizeFits (T : Tables) (routes walks : ℕ) : Type 0 where
 
 -- ---- the whole feed
 
--- a sound timetable whose used parts are all there
-pub record Writable (T : Tables) : Type 0 where
-  pub sound : Sound T
-  pub rows : T .routes * 4 ≤ length (T .t1)
-  pub positions : positionsTo T (T .routes) ≤ length (T .t2)
-  pub arrivals : eventsTo T (T .routes) ≤ length (T .t3)
-  pub departures : eventsTo T (T .routes) ≤ length (T .t4)
-  pub walks : T .walks * 3 ≤ length (T .t5)
-
--- its feed, of this size, has room
+-- a sound timetable in tables of full size, whose feed, of this size, has room
 pub record FeedFits (T : Tables) (size : ℕ) (out : List ℕ) : Type 0 where
-  pub writable : Writable T
+  pub fit : Fit T
   pub is : size ≡ sizeOf T
   pub room : size ≤ length out

@@ -1,4 +1,4 @@
--- 5 and 7: the counts of a route, and the sums that run over the routes.
+-- 5: the counts of a route, and the sums that run over the routes.
 use mathlib.Core.Path.{_≡_, refl, sym, _∙_}
 use mathlib.Core.Bool.{Bool, true, false, not, _&&_}
 use mathlib.Core.List.{List}
@@ -6,19 +6,23 @@ use Prim.Native.Nat.{ℕ, zero, suc, _+_, _*_, _≤_, _<_}
 use native.Mathlib.Nat.{le-refl}
 use native.Mathlib.Omega.{arith}
 use lib.Dec.{eqb, leb}
-use borrow.Author.Tests.{leb-true, le-ltb}
+use borrow.Author.Tests.{leb-true}
 use Rattle.laws.specs.Below.{sumBelow}
 use Rattle.laws.proofs.Tests.{and-both, cells-most}
 use Rattle.laws.proofs.Below.{Passed, passed-none, passed-more, sumBelow-next}
-use Rattle.paper.specs.Timetable.{Tables, stopOf, nOf, mOf, firstPosition, firstEvent, positionsTo, tripsTo, eventsTo}
-use Rattle.paper.specs.Rules.{lowestOf, counted, routeBroken, stopBroken}
+use Rattle.paper.specs.Timetable.{nOf, mOf, positionsTo, tripsTo, eventsTo}
+use Rattle.paper.specs.Rules.{lowestOf, counted, routeBroken}
 use Rattle.paper.proofs.Places.{Counted, route-right}
-use Rattle.footpaths.specs.declared.Place.{Place}
-use Rattle.footpaths.specs.Places.{placeOf}
-use Rattle.footpaths.proofs.Loops.{at-lowest, no-lowest}
+use Rattle.places.specs.declared.Place.{Place}
+use Rattle.places.specs.Place.{placeOf}
+use Rattle.places.proofs.Lowest.{at-lowest, no-lowest}
 use Rattle.timetable.specs.declared.Totals.{Totals}
-use Rattle.timetable.specs.Places.{ofRoutes, totalsOf}
-use Rattle.timetable.specs.Needed.{Before, Laid}
+use Rattle.extents.specs.declared.Extent.{Extent}
+use Rattle.extents.specs.Extent.{extentOf}
+use Rattle.trips.specs.Places.{ofRoutes}
+use Rattle.trips.specs.Needed.{Laid}
+use Rattle.timetable.specs.Places.{totalsOf}
+use Rattle.timetable.specs.Needed.{Before}
 
 -- the counts of one route are small
 pub record Small (n m : ℕ) : Type 0 where
@@ -32,11 +36,6 @@ small-of n m e =
     let x : n ≤ 64 = leb-true n 64 (and-both (leb 2 n) (leb n 64) (a .0) .1) in
     let y : m ≤ 512 = leb-true m 512 (and-both (leb 1 m) (leb m 512) (a .1) .1) in
     record { n≤ = x; m≤ = y; cells≤ = cells-most n m 64 512 x y }
-
--- the number at position p is not a stop's
-pub stop-broken : (T : Tables) (p : ℕ) → T .stops ≤ stopOf T p → stopBroken T p ≡ true
-unfolding stopBroken
-stop-broken T p h = rw (le-ltb (stopOf T p) (T .stops) h)
 
 -- the routes below r are right, and these are their sums
 pub record Summed (count : ℕ) (t1 : List ℕ) (r positions trips events : ℕ) : Type 0 where
@@ -62,49 +61,41 @@ module _ (count : ℕ) (t1 : List ℕ) where
         before = record { trips≤ = omega arith; events≤ = omega arith };
       }
 
-  -- the code's test of route r
-  abbrev right : ℕ → ℕ → ℕ → Bool → Bool
-  right r positions events b = b && eqb (firstPosition (ofRoutes count t1) r) positions && eqb (firstEvent (ofRoutes count t1) r) events
+  -- the code's test of a route
+  abbrev right : Extent → ℕ → ℕ → Bool → Bool
+  right x positions events b = b && eqb (x .first) positions && eqb (x .event) events
 
-  module _ (r positions trips events : ℕ) (h : Summed count t1 r positions trips events) where
-    abbrev n : ℕ
-    n = nOf (ofRoutes count t1) r
-
-    abbrev m : ℕ
-    m = mOf (ofRoutes count t1) r
-
-    pub tested : {b : Bool} → b ≡ counted n m trips events → not (right r positions events b) ≡ routeBroken (ofRoutes count t1) r
+  module _ (r positions trips events : ℕ) {x : Extent} (h : Summed count t1 r positions trips events) (is : x ≡ extentOf t1 r) where
+    tested : {b : Bool} → b ≡ counted (x .n) (x .m) trips events → not (right x positions events b) ≡ routeBroken (ofRoutes count t1) r
     unfolding routeBroken
-    tested e = rw (e, h .positions-are, h .trips-are, h .events-are)
+    tested e = rw (e, is, h .positions-are, h .trips-are, h .events-are)
 
-    pub route-counts : {b : Bool} → b ≡ counted n m trips events → not (right r positions events b) ≡ false → Counted n m trips events
+    pub route-counts : {b : Bool} → b ≡ counted (x .n) (x .m) trips events → not (right x positions events b) ≡ false → Counted (x .n) (x .m) trips events
     route-counts e f =
-        let x = route-right (ofRoutes count t1) r (sym (tested e) ∙ f) .counts in
-        rw (h .trips-are, h .events-are) x
+        let y = route-right (ofRoutes count t1) r (sym (tested e) ∙ f) .counts in
+        rw (is, h .trips-are, h .events-are) y
 
-    pub summed-next : {b : Bool} → r < count → b ≡ counted n m trips events → not (right r positions events b) ≡ false →
-        Summed count t1 (r + 1) (positions + n) (trips + m) (events + n * m)
+    pub summed-next : {b : Bool} → r < count → b ≡ counted (x .n) (x .m) trips events → not (right x positions events b) ≡ false →
+        Summed count t1 (r + 1) (positions + x .n) (trips + x .m) (events + x .n * x .m)
     unfolding positionsTo tripsTo eventsTo
     summed-next l e f =
-        let x = route-counts e f in
-        let w = h .positions-are in
-        let y = h .positions≤ in
+        let y = route-counts e f in
         record {
           upto = omega arith;
           passed = passed-more (routeBroken (ofRoutes count t1)) r (h .passed) (sym (tested e) ∙ f);
-          positions-are = rw sumBelow-next (rw (h .positions-are) refl);
-          trips-are = rw sumBelow-next (rw (h .trips-are) refl);
-          events-are = rw sumBelow-next (rw (h .events-are) refl);
-          positions≤ = omega arith;
-          before = record { trips≤ = x .trips≤; events≤ = x .events≤ };
+          positions-are = rw sumBelow-next (rw (h .positions-are, is) refl);
+          trips-are = rw sumBelow-next (rw (h .trips-are, is) refl);
+          events-are = rw sumBelow-next (rw (h .events-are, is) refl);
+          positions≤ = omega (arith, y .n≤, h .positions≤);
+          before = record { trips≤ = y .trips≤; events≤ = y .events≤ };
         }
 
-    pub summed-found : {b : Bool} → r < count → b ≡ counted n m trips events → not (right r positions events b) ≡ true →
+    pub summed-found : {b : Bool} → r < count → b ≡ counted (x .n) (x .m) trips events → not (right x positions events b) ≡ true →
         Place.At r ≡ placeOf (lowestOf count (routeBroken (ofRoutes count t1)))
     summed-found l e t = at-lowest count (routeBroken (ofRoutes count t1)) r l (h .passed) (sym (tested e) ∙ t)
 
-    pub summed-end : count ≤ r → Place.Nowhere ≡ placeOf (lowestOf count (routeBroken (ofRoutes count t1)))
-    summed-end l = let u = h .upto in no-lowest count (routeBroken (ofRoutes count t1)) r (omega arith) (h .passed)
+  pub summed-end : (r positions trips events : ℕ) → Summed count t1 r positions trips events → count ≤ r → Place.Nowhere ≡ placeOf (lowestOf count (routeBroken (ofRoutes count t1)))
+  summed-end r positions trips events h l = let u = h .upto in no-lowest count (routeBroken (ofRoutes count t1)) r (omega arith) (h .passed)
 
 -- the sums of the routes below r
 pub record Totalled (count : ℕ) (t1 : List ℕ) (r positions trips : ℕ) : Type 0 where

@@ -1,33 +1,34 @@
 -- The rules in 01's order: what one rule's place says of all of them, and what the rules before a rule give it.
-use mathlib.Core.Path.{_≡_, refl}
+use mathlib.Core.Path.{_≡_, refl, sym}
 use mathlib.Core.Bool.{true, false}
 use mathlib.Core.List.{[]}
 use mathlib.Core.Option.{Option, none, some}
-use Prim.Native.Nat.{ℕ, zero, suc, _+_, _≤_, _<_}
-use native.Mathlib.Nat.{le-refl}
+use Prim.Native.Nat.{ℕ, _+_, _≤_, _<_}
 use native.Mathlib.Omega.{arith}
 use lib.ListN.{length, getD}
 use borrow.Author.Tests.{ltb-false}
-use Rattle.laws.specs.Below.{orElse, given, sumBelow}
-use Rattle.laws.proofs.Tests.{cells-most}
+use Rattle.laws.specs.Below.{orElse, given}
 use Rattle.laws.proofs.Checking.{orElse-nothing}
 use Rattle.laws.proofs.Found.{given-true, given-false, firstFound-never}
-use Rattle.paper.specs.Timetable.{Tables, nOf, mOf, fullSizes, positionsTo, tripsTo, eventsTo, routeOf}
+use Rattle.paper.specs.Timetable.{Tables, fullSizes, positionsTo, tripsTo, eventsTo, routeOf}
 use Rattle.paper.specs.Rules.{Refusal, headsBroken, routeBroken, stopBroken, timeBroken, overtakes, eventOf, lowestOf, lowestTime, lowestOvertaken, rises, walkBroken, within, gap, opens, countRules, wholeRules, refusedBy, firstBroken, faultOf}
 use Rattle.paper.specs.Work.{limitOf}
-use Rattle.paper.specs.Reply.{shortTable, lengthsOf, checkOf}
+use Rattle.paper.specs.Reply.{refusal, shortTable, lengthsOf, checkOf}
 use Rattle.paper.specs.declared.Heads.{Heads}
 use Rattle.paper.specs.declared.Checked.{Checked}
 use Rattle.paper.proofs.Lowest.{given-nothing}
+use Rattle.paper.proofs.RouteEnds.{positions-events}
 use Rattle.paper.proofs.Places.{HeadsRight, heads-right, walk-right}
 use Rattle.paper.proofs.Checks.{CountsUnbroken, counts-unbroken, routes-right, counts-events, walks-right, walks-rising}
-use Rattle.footpaths.specs.declared.Place.{Place}
-use Rattle.footpaths.specs.Places.{placeOf, ofWalks}
-use Rattle.footpaths.specs.Walks.{WalksLent, Walked}
-use Rattle.footpaths.proofs.Loops.{nowhere-none, at-some}
+use Rattle.places.specs.declared.Place.{Place}
+use Rattle.places.specs.Place.{placeOf}
+use Rattle.footpaths.specs.Walks.{ofWalks, WalksLent, Walked}
+use Rattle.places.proofs.Lowest.{nowhere-none, at-some}
+use Rattle.trips.specs.Places.{ofRoutes, ofStops, ofTimes, lowestEvent}
+use Rattle.trips.specs.Needed.{Laid, TimesLaid}
 use Rattle.timetable.specs.declared.Fault.{Fault}
-use Rattle.timetable.specs.Places.{faultAs, fiveLengths, shortPlace, ofRoutes, ofStops, ofTimes}
-use Rattle.timetable.specs.Needed.{Full, CountsRight, LimitLent, Laid, TimesLaid}
+use Rattle.timetable.specs.Places.{faultAs, fiveLengths, shortPlace}
+use Rattle.timetable.specs.Needed.{Full, CountsRight, LimitLent}
 
 -- ---- one rule, and the rules after it
 
@@ -42,6 +43,13 @@ past-rule number x y e h = rw (nowhere-none x e) h
 pub unbroken-none : (x : Option Refusal) → Fault.Unbroken ≡ faultAs x → x ≡ none
 unbroken-none none e = refl
 unbroken-none (some x) e = cc
+
+pub refused-some : (x : Option Refusal) (n p : ℕ) → Fault.Refused n p ≡ faultAs x → x ≡ some (refusal n p)
+refused-some none n p e = cc
+refused-some (some x) n p e =
+    let a : n ≡ x .number = cc in
+    let b : p ≡ x .place = cc in
+    λ i. some (refusal (sym a i) (sym b i))
 
 refused-else : (x y : Option Refusal) {n p : ℕ} → Fault.Refused n p ≡ faultAs x → Fault.Refused n p ≡ faultAs (orElse x y)
 unfolding orElse
@@ -154,12 +162,12 @@ module _ (T : Tables) where
   unfolding stopBroken positionsTo
   stops-read q e = rw q at e
 
-  pub times-read : {x : Place} → x ≡ placeOf (lowestTime (ofTimes (T .routes) (T .t1) (T .t3) (T .t4))) → x ≡ placeOf (lowestTime T)
-  unfolding lowestTime timeBroken routeOf eventOf
+  pub times-read : {x : Place} → x ≡ placeOf (lowestEvent false (ofTimes (T .routes) (T .t1) (T .t3) (T .t4))) → x ≡ placeOf (lowestTime T)
+  unfolding lowestEvent lowestTime timeBroken routeOf eventOf
   times-read e = e
 
-  pub overtaken-read : {x : Place} → x ≡ placeOf (lowestOvertaken (ofTimes (T .routes) (T .t1) (T .t3) (T .t4))) → x ≡ placeOf (lowestOvertaken T)
-  unfolding lowestOvertaken overtakes routeOf eventOf
+  pub overtaken-read : {x : Place} → x ≡ placeOf (lowestEvent true (ofTimes (T .routes) (T .t1) (T .t3) (T .t4))) → x ≡ placeOf (lowestOvertaken T)
+  unfolding lowestEvent lowestOvertaken overtakes routeOf eventOf
   overtaken-read e = e
 
   abbrev own-walks : Tables
@@ -194,17 +202,9 @@ module _ (T : Tables) where
           events≤ = λ r l. rw (routes-right T unbroken r l .first-event) (routes-right T unbroken r l .counts .events≤);
         }
 
-    positions-events : (k : ℕ) → k ≤ T .routes → positionsTo T k ≤ eventsTo T k
-    unfolding positionsTo eventsTo sumBelow
-    positions-events zero l = le-refl 0
-    positions-events (suc k) l =
-        let r = positions-events k (omega arith) in
-        let m = laid-of .m≥ k l in
-        omega (arith, cells-most (nOf T k) 1 (nOf T k) (mOf T k) (le-refl (nOf T k)) m)
-
     pub positions-fit : {count : ℕ} → count ≡ positionsTo (ofRoutes (T .routes) (T .t1)) (T .routes) → count ≤ length (T .t2)
     unfolding positionsTo
-    positions-fit e = omega (arith, positions-events (T .routes) (le-refl (T .routes)), counts-events T unbroken, h .full .positions)
+    positions-fit e = omega (arith, positions-events T (laid-of .m≥), counts-events T unbroken, h .full .positions)
 
     pub times-laid : TimesLaid (T .routes) (T .t1) (T .t3) (T .t4)
     times-laid = record { laid = laid-of; arrivals = h .full .arrivals; departures = h .full .departures }

@@ -1,4 +1,3 @@
 -- What the functions of the rules take and promise.
 pub mod Places
 pub mod Needed
-pub mod Folds

@@ -3,13 +3,16 @@ ghost use mathlib.Core.Path.{_≡_};
 ghost use mathlib.Core.List.{[]};
 ghost use Rattle.paper.specs.Rules.{lowestOf, headsBroken, routeBroken, countRules, firstBroken};
 ghost use Rattle.paper.specs.Work.{limitOf};
-ghost use Rattle.footpaths.specs.Places.{placeOf};
-ghost use Rattle.timetable.specs.Places.{faultAs, ofCounts, ofRoutes, totalsOf};
-ghost use Rattle.timetable.specs.Needed.{CountsLent, LimitLent, Before, RoutesLent, Laid};
+ghost use Rattle.places.specs.Place.{placeOf};
+ghost use Rattle.trips.specs.Places.{ofRoutes};
+ghost use Rattle.trips.specs.Needed.{Laid};
+ghost use Rattle.timetable.specs.Places.{faultAs, ofCounts, totalsOf};
+ghost use Rattle.timetable.specs.Needed.{CountsLent, LimitLent, Before, RoutesLent};
 use crate::Fault;
 use crate::Totals;
-use footpaths::Place;
+use extents::extent_of;
 use paper::Heads;
+use places::Place;
 
 // 5: the head counts.
 pub fn heads_broken(heads: Heads) -> bool
@@ -38,17 +41,15 @@ pub fn lowest_route(count: u32, routes: &[u32]) -> Place
     let mut trips: u32 = 0;
     let mut events: u32 = 0;
     for r in 0..count {
-        let at = (r as usize) * 4;
-        let n = routes[at];
-        let m = routes[at + 1];
-        if !(counted(n, m, trips, events)
-            & (routes[at + 2] == positions)
-            & (routes[at + 3] == events)) {
+        let route = extent_of(routes, r);
+        if !(counted(route.n, route.m, trips, events)
+            & (route.first == positions as usize)
+            & (route.event == events as usize)) {
             return Place::At(r);
         }
-        positions += n;
-        trips += m;
-        events += n * m;
+        positions += route.n;
+        trips += route.m;
+        events += route.n * route.m;
     }
     Place::Nowhere
 }

@@ -3,24 +3,22 @@ ghost use mathlib.Core.Path.{_≡_};
 ghost use Rattle.paper.specs.Timetable.{lent};
 ghost use Rattle.paper.specs.Rules.{wholeRules, firstBroken, faultOf};
 ghost use Rattle.paper.specs.Reply.{checkOf};
-ghost use Rattle.footpaths.specs.Places.{placeOf};
+ghost use Rattle.places.specs.Place.{placeOf};
 ghost use Rattle.timetable.specs.Places.{faultAs, shortPlace, fiveLengths};
 ghost use Rattle.timetable.specs.Needed.{Full, CountsRight};
 
 mod counts;
-mod events;
 
 use crate::counts::count_fault;
 use crate::counts::limit_of;
 use crate::counts::totals_of;
-use crate::events::lowest_overtaken;
-use crate::events::lowest_stop;
-use crate::events::lowest_time;
-use footpaths::Place;
 use footpaths::lowest_open;
 use footpaths::lowest_walk;
 use paper::Checked;
 use paper::Heads;
+use places::Place;
+use trips::lowest_event;
+use trips::lowest_stop;
 
 // What the first broken rule refuses.
 pub enum Fault {
@@ -78,10 +76,10 @@ pub fn whole_fault(
     if let Place::At(p) = lowest_stop(heads.stops, all.positions, positions) {
         return Fault::Refused(7, p);
     }
-    if let Place::At(p) = lowest_time(heads.routes, routes, arrivals, departures) {
+    if let Place::At(p) = lowest_event(false, heads.routes, routes, arrivals, departures) {
         return Fault::Refused(8, p);
     }
-    if let Place::At(p) = lowest_overtaken(heads.routes, routes, arrivals, departures) {
+    if let Place::At(p) = lowest_event(true, heads.routes, routes, arrivals, departures) {
         return Fault::Refused(9, p);
     }
     if let Place::At(p) = lowest_walk(heads.stops, heads.walks, walks) {

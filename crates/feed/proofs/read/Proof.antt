@@ -2,7 +2,7 @@
 use borrow.Author.Needs.{needs}
 use mathlib.Core.Path.{sym, _∙_}
 use native.Mathlib.Omega.{arith}
-use Rattle.feed.proofs.Held.{fell, stood}
+use Rattle.records.proofs.Held.{fell, stood}
 use Rattle.feed.proofs.Top.{length-bounds}
 use Rattle.feed.proofs.Answers.{leaves-short, leaves-length, leaves-sum, body-room, leaves-body}
 use Rattle.feed.proofs.read.Statement.{statement}

@@ -1,10 +1,10 @@
 -- `footpaths::begin_from`: the walks passed are from stops before s.
 use Prim.Native.Nat.{_≤_, _-_}
 use native.Mathlib.Omega.{arith}
-use Rattle.footpaths.specs.Places.{ofWalks}
+use Rattle.footpaths.specs.Walks.{ofWalks}
 use borrow.Author.Tests.{lt-leb}
 use Rattle.laws.proofs.Below.{Passed, passed-more}
-use Rattle.footpaths.proofs.Closure.{notBefore, past-passed, begin-here, begin-end}
+use Rattle.footpaths.proofs.Begins.{notBefore, past-passed, begin-here, begin-end}
 use borrow.Author.Needs.{needs}
 use Rattle.footpaths.proofs.begin_from.Statement.{statement}
 use Rattle.footpaths.proofs.begin_from.Tie as tie

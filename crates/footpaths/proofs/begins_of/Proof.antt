@@ -1,8 +1,8 @@
 -- `footpaths::begins_of`: the array has the begins of the stops passed.
 use Prim.Native.Nat.{_-_}
 use native.Mathlib.Omega.{arith}
-use Rattle.footpaths.specs.Places.{ofWalks}
-use Rattle.footpaths.proofs.Closure.{Begun, begun-start, begun-next, begun-end}
+use Rattle.footpaths.specs.Walks.{ofWalks}
+use Rattle.footpaths.proofs.Begins.{Begun, begun-start, begun-next, begun-end}
 use borrow.Author.Needs.{needs}
 use Rattle.footpaths.proofs.begins_of.Statement.{statement}
 use Rattle.footpaths.proofs.begins_of.Tie as tie

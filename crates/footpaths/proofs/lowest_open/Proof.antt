@@ -5,8 +5,8 @@ use Prim.Native.Nat.{_-_}
 use native.Mathlib.Omega.{arith}
 use Rattle.laws.proofs.Below.{passed-none}
 use Rattle.paper.specs.Timetable.{walkFrom}
-use Rattle.footpaths.specs.Places.{ofWalks}
-use Rattle.footpaths.proofs.Loops.{at-lowest, no-lowest}
+use Rattle.footpaths.specs.Walks.{ofWalks}
+use Rattle.places.proofs.Lowest.{at-lowest, no-lowest}
 use Rattle.footpaths.proofs.Closure.{Looking, looking-start, Turned, turned-new, turned-old, looking-next}
 use borrow.Author.Needs.{needs}
 use Rattle.footpaths.proofs.lowest_open.Statement.{statement}

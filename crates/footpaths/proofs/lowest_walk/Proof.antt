@@ -3,8 +3,8 @@ use mathlib.Core.Path.{sym, _∙_}
 use Prim.Native.Nat.{_≤_, _-_}
 use Rattle.laws.proofs.Below.{Passed, passed-none, passed-call}
 use Rattle.paper.specs.Rules.{walkBroken}
-use Rattle.footpaths.specs.Places.{ofWalks}
-use Rattle.footpaths.proofs.Loops.{at-lowest, no-lowest}
+use Rattle.footpaths.specs.Walks.{ofWalks}
+use Rattle.places.proofs.Lowest.{at-lowest, no-lowest}
 use borrow.Author.Needs.{needs}
 use Rattle.footpaths.proofs.lowest_walk.Statement.{statement}
 use Rattle.footpaths.proofs.lowest_walk.Tie as tie

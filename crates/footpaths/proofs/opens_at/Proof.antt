@@ -1,7 +1,7 @@
 -- `footpaths::opens_at`: the walks passed show no gap.
 use Prim.Native.Nat.{_-_}
 use native.Mathlib.Omega.{arith}
-use Rattle.footpaths.specs.Places.{ofWalks}
+use Rattle.footpaths.specs.Walks.{ofWalks}
 use Rattle.footpaths.proofs.Closure.{gap-test, Following, following-start, following-next, following-end, Pair, pair, First, first}
 use borrow.Author.Needs.{needs}
 use Rattle.footpaths.proofs.opens_at.Statement.{statement}

@@ -1,8 +1,8 @@
 -- `footpaths::seconds_from`: the array has the seconds of the walks passed.
 use Prim.Native.Nat.{_+_, _-_}
 use native.Mathlib.Omega.{arith}
-use Rattle.footpaths.specs.Places.{ofWalks}
-use Rattle.footpaths.proofs.Closure.{Near, near-start, turn, near-next, near-end}
+use Rattle.footpaths.specs.Walks.{ofWalks}
+use Rattle.footpaths.proofs.Seconds.{Near, near-start, turn, near-next, near-end}
 use borrow.Author.Needs.{needs}
 use Rattle.footpaths.proofs.seconds_from.Statement.{statement}
 use Rattle.footpaths.proofs.seconds_from.Tie as tie

@@ -1,13 +1,24 @@
 -- `rounds::round` meets its contract: what `ride`, `walk` and `write_row` give makes the round.
 use native.Mathlib.Omega.{arith}
-use denote.Ref.{now}
 use Rattle.laws.specs.Below.{mark}
-use Rattle.paper.specs.Timetable.{tables}
-use Rattle.rounds.proofs.Fitting.{rideable, walkable}
+use Rattle.scan.proofs.Fitting.{rideable, walkable}
 use Rattle.rounds.proofs.Rounding.{reach-size, row-long, work-few, round-done}
 use borrow.Author.Needs.{needs}
 use Rattle.rounds.proofs.round.Statement.{statement}
 use Rattle.rounds.proofs.round.Tie as tie
+
+-- from a place of the code to the places around it: an added statement changes one of these lines
+abbrev start : tie.After-struct-known → tie.Start
+start c = c .before .before .before .before .before .before .before
+
+abbrev entry : tie.After-ride → tie.Start
+entry c = start (c .before .before .before .before)
+
+abbrev rode : tie.After-next → tie.After-ride
+rode c = c .before .before .before
+
+abbrev walked : tie.After-slice-known2 → tie.After-walk
+walked c = c .before .before .before .before .before .before .before
 
 mul-a : tie.Need-mul-a
 mul-a c = search needs
@@ -34,7 +45,7 @@ slice-aggregate-ride : tie.Need-slice-aggregate-ride
 slice-aggregate-ride c = search needs
 
 ride-requires : tie.Need-ride-requires
-ride-requires c κs = let a = c .before .before .before .before .before .before .before .before .before .before .args in rideable (tables (a .heads) (now (a .routes)) (now (a .positions)) (now (a .arrivals)) (now (a .departures)) (now (a .walks))) (c .before .before .before .before .before .before .before .before .before .before .pre .fit) _ (row-long (tables (a .heads) (now (a .routes)) (now (a .positions)) (now (a .arrivals)) (now (a .departures)) (now (a .walks))) (now (a .labels)) (a .k) (c .before .before .before .before .before .before .before .before .before .before .pre))
+ride-requires c κs = let s = start (c .before .before .before) in rideable _ (s .pre .fit) _ (row-long _ _ _ (s .pre))
 
 slice-aggregate-walk : tie.Need-slice-aggregate-walk
 slice-aggregate-walk c = search needs
@@ -44,7 +55,7 @@ slice-aggregate-walk-2 c = search needs
 
 walk-requires : tie.Need-walk-requires
 unfolding mark
-walk-requires c κs = let a = c .before .before .before .before .before .before .before .before .before .before .before .before .before .before .args in walkable (tables (a .heads) (now (a .routes)) (now (a .positions)) (now (a .arrivals)) (now (a .departures)) (now (a .walks))) (c .before .before .before .before .before .before .before .before .before .before .before .before .before .before .pre .fit) _ (reach-size (c .before .before .before .ride .ensures))
+walk-requires c κs = let d = rode c in walkable _ (entry d .pre .fit) _ (reach-size (d .ride .ensures))
 
 slice-aggregate-write-row : tie.Need-slice-aggregate-write-row
 slice-aggregate-write-row c = search needs
@@ -57,14 +68,20 @@ write-row-requires c κs = search needs
 
 add-work : tie.Need-add-work
 unfolding mark
-add-work c = let a = c .before .before .before .before .before .before .before .before .before .before .before .before .before .before .before .before .before .before .before .before .before .before .args in omega (arith, work-few (tables (a .heads) (now (a .routes)) (now (a .positions)) (now (a .arrivals)) (now (a .departures)) (now (a .walks))) (now (a .labels)) (a .k) (c .before .before .before .before .before .before .before .before .before .before .before .before .before .before .before .before .before .before .before .before .before .before .pre) (c .before .before .before .before .before .before .before .before .before .before .before .ride .ensures) (c .before .before .before .before .before .before .before .walk .ensures))
+add-work c =
+    let w = walked c in
+    let d = rode (w .before) in
+    omega (arith, work-few _ _ _ (entry d .pre) (d .ride .ensures) (w .walk .ensures))
 
 same-length : tie.Need-same-length
 same-length c = search needs
 
 returns : tie.Need-returns
 unfolding mark
-returns c = let a = c .before .before .before .before .before .before .before .before .before .before .before .before .before .before .before .before .before .before .before .before .before .before .args in round-done (tables (a .heads) (now (a .routes)) (now (a .positions)) (now (a .arrivals)) (now (a .departures)) (now (a .walks))) (now (a .labels)) (a .k) (c .before .before .before .before .before .before .before .before .before .before .before .before .before .before .before .before .before .before .before .before .before .before .pre) (c .before .before .before .before .before .before .before .before .before .before .before .ride .ensures) (c .before .before .before .before .before .before .before .walk .ensures) (c .before .before .write-row .ensures)
+returns c =
+    let w = walked c in
+    let d = rode (w .before) in
+    round-done _ _ _ (entry d .pre) (d .ride .ensures) (w .walk .ensures) (c .before .before .write-row .ensures)
 
 pub round-spec : {M : Type 1} → statement M
 round-spec =

@@ -22,26 +22,26 @@ returns c = let a = c .before .before .before .before .before .before .before .b
 enum-told : tie.Need-enum-told
 enum-told c = search needs
 
-lowest-time-requires : tie.Need-lowest-time-requires
-lowest-time-requires c κs = let a = c .before .before .before .before .before .before .before .before .before .args in let T = lent (a .heads) (a .routes) (a .positions) (a .arrivals) (a .departures) (a .walks) in times-laid T (c .before .before .before .before .before .before .before .before .before .pre)
+lowest-event-requires : tie.Need-lowest-event-requires
+lowest-event-requires c κs = let a = c .before .before .before .before .before .before .before .before .before .args in let T = lent (a .heads) (a .routes) (a .positions) (a .arrivals) (a .departures) (a .walks) in times-laid T (c .before .before .before .before .before .before .before .before .before .pre)
 
 enum-known-p-2 : tie.Need-enum-known-p-2
 enum-known-p-2 c = search needs
 
 returns-2 : tie.Need-returns-2
-returns-2 c = let a = c .before .before .before .before .before .before .before .before .before .before .before .before .before .args in let T = lent (a .heads) (a .routes) (a .positions) (a .arrivals) (a .departures) (a .walks) in refused-8 T (stops-read T (ap (λ (x : Totals). x .positions) (c .before .before .before .before .before .before .before .totals-of .ensures)) (sym (c .before .before .before .before .enum-told .given .1) ∙ c .before .before .before .before .before .before .lowest-stop .ensures)) (times-read T (sym (c .before .p2 .given .1) ∙ c .before .before .before .lowest-time .ensures))
+returns-2 c = let a = c .before .before .before .before .before .before .before .before .before .before .before .before .before .args in let T = lent (a .heads) (a .routes) (a .positions) (a .arrivals) (a .departures) (a .walks) in refused-8 T (stops-read T (ap (λ (x : Totals). x .positions) (c .before .before .before .before .before .before .before .totals-of .ensures)) (sym (c .before .before .before .before .enum-told .given .1) ∙ c .before .before .before .before .before .before .lowest-stop .ensures)) (times-read T (sym (c .before .p2 .given .1) ∙ c .before .before .before .lowest-event .ensures))
 
 enum-told-2 : tie.Need-enum-told-2
 enum-told-2 c = search needs
 
-lowest-overtaken-requires : tie.Need-lowest-overtaken-requires
-lowest-overtaken-requires c κs = let a = c .before .before .before .before .before .before .before .before .before .before .before .before .args in let T = lent (a .heads) (a .routes) (a .positions) (a .arrivals) (a .departures) (a .walks) in times-laid T (c .before .before .before .before .before .before .before .before .before .before .before .before .pre)
+lowest-event-requires-2 : tie.Need-lowest-event-requires-2
+lowest-event-requires-2 c κs = let a = c .before .before .before .before .before .before .before .before .before .before .before .before .args in let T = lent (a .heads) (a .routes) (a .positions) (a .arrivals) (a .departures) (a .walks) in times-laid T (c .before .before .before .before .before .before .before .before .before .before .before .before .pre)
 
 enum-known-p-3 : tie.Need-enum-known-p-3
 enum-known-p-3 c = search needs
 
 returns-3 : tie.Need-returns-3
-returns-3 c = let a = c .before .before .before .before .before .before .before .before .before .before .before .before .before .before .before .before .args in let T = lent (a .heads) (a .routes) (a .positions) (a .arrivals) (a .departures) (a .walks) in refused-9 T (stops-read T (ap (λ (x : Totals). x .positions) (c .before .before .before .before .before .before .before .before .before .before .totals-of .ensures)) (sym (c .before .before .before .before .before .before .before .enum-told .given .1) ∙ c .before .before .before .before .before .before .before .before .before .lowest-stop .ensures)) (times-read T (sym (c .before .before .before .before .enum-told2 .given .1) ∙ c .before .before .before .before .before .before .lowest-time .ensures)) (overtaken-read T (sym (c .before .p3 .given .1) ∙ c .before .before .before .lowest-overtaken .ensures))
+returns-3 c = let a = c .before .before .before .before .before .before .before .before .before .before .before .before .before .before .before .before .args in let T = lent (a .heads) (a .routes) (a .positions) (a .arrivals) (a .departures) (a .walks) in refused-9 T (stops-read T (ap (λ (x : Totals). x .positions) (c .before .before .before .before .before .before .before .before .before .before .totals-of .ensures)) (sym (c .before .before .before .before .before .before .before .enum-told .given .1) ∙ c .before .before .before .before .before .before .before .before .before .lowest-stop .ensures)) (times-read T (sym (c .before .before .before .before .enum-told2 .given .1) ∙ c .before .before .before .before .before .before .lowest-event .ensures)) (overtaken-read T (sym (c .before .p3 .given .1) ∙ c .before .before .before .lowest-event2 .ensures))
 
 enum-told-3 : tie.Need-enum-told-3
 enum-told-3 c = search needs
@@ -53,7 +53,7 @@ enum-known-p-4 : tie.Need-enum-known-p-4
 enum-known-p-4 c = search needs
 
 returns-4 : tie.Need-returns-4
-returns-4 c = let a = c .before .before .before .before .before .before .before .before .before .before .before .before .before .before .before .before .before .before .before .args in let T = lent (a .heads) (a .routes) (a .positions) (a .arrivals) (a .departures) (a .walks) in refused-10 T (stops-read T (ap (λ (x : Totals). x .positions) (c .before .before .before .before .before .before .before .before .before .before .before .before .before .totals-of .ensures)) (sym (c .before .before .before .before .before .before .before .before .before .before .enum-told .given .1) ∙ c .before .before .before .before .before .before .before .before .before .before .before .before .lowest-stop .ensures)) (times-read T (sym (c .before .before .before .before .before .before .before .enum-told2 .given .1) ∙ c .before .before .before .before .before .before .before .before .before .lowest-time .ensures)) (overtaken-read T (sym (c .before .before .before .before .enum-told3 .given .1) ∙ c .before .before .before .before .before .before .lowest-overtaken .ensures)) (walks-read T (sym (c .before .p4 .given .1) ∙ c .before .before .before .lowest-walk .ensures))
+returns-4 c = let a = c .before .before .before .before .before .before .before .before .before .before .before .before .before .before .before .before .before .before .before .args in let T = lent (a .heads) (a .routes) (a .positions) (a .arrivals) (a .departures) (a .walks) in refused-10 T (stops-read T (ap (λ (x : Totals). x .positions) (c .before .before .before .before .before .before .before .before .before .before .before .before .before .totals-of .ensures)) (sym (c .before .before .before .before .before .before .before .before .before .before .enum-told .given .1) ∙ c .before .before .before .before .before .before .before .before .before .before .before .before .lowest-stop .ensures)) (times-read T (sym (c .before .before .before .before .before .before .before .enum-told2 .given .1) ∙ c .before .before .before .before .before .before .before .before .before .lowest-event .ensures)) (overtaken-read T (sym (c .before .before .before .before .enum-told3 .given .1) ∙ c .before .before .before .before .before .before .lowest-event2 .ensures)) (walks-read T (sym (c .before .p4 .given .1) ∙ c .before .before .before .lowest-walk .ensures))
 
 enum-told-4 : tie.Need-enum-told-4
 enum-told-4 c = search needs
@@ -65,13 +65,13 @@ enum-known-p-5 : tie.Need-enum-known-p-5
 enum-known-p-5 c = search needs
 
 returns-5 : tie.Need-returns-5
-returns-5 c = let a = c .before .before .before .before .before .before .before .before .before .before .before .before .before .before .before .before .before .before .before .before .before .before .args in let T = lent (a .heads) (a .routes) (a .positions) (a .arrivals) (a .departures) (a .walks) in refused-11 T (stops-read T (ap (λ (x : Totals). x .positions) (c .before .before .before .before .before .before .before .before .before .before .before .before .before .before .before .before .totals-of .ensures)) (sym (c .before .before .before .before .before .before .before .before .before .before .before .before .before .enum-told .given .1) ∙ c .before .before .before .before .before .before .before .before .before .before .before .before .before .before .before .lowest-stop .ensures)) (times-read T (sym (c .before .before .before .before .before .before .before .before .before .before .enum-told2 .given .1) ∙ c .before .before .before .before .before .before .before .before .before .before .before .before .lowest-time .ensures)) (overtaken-read T (sym (c .before .before .before .before .before .before .before .enum-told3 .given .1) ∙ c .before .before .before .before .before .before .before .before .before .lowest-overtaken .ensures)) (walks-read T (sym (c .before .before .before .before .enum-told4 .given .1) ∙ c .before .before .before .before .before .before .lowest-walk .ensures)) (open-read T (sym (c .before .p5 .given .1) ∙ c .before .before .before .lowest-open .ensures))
+returns-5 c = let a = c .before .before .before .before .before .before .before .before .before .before .before .before .before .before .before .before .before .before .before .before .before .before .args in let T = lent (a .heads) (a .routes) (a .positions) (a .arrivals) (a .departures) (a .walks) in refused-11 T (stops-read T (ap (λ (x : Totals). x .positions) (c .before .before .before .before .before .before .before .before .before .before .before .before .before .before .before .before .totals-of .ensures)) (sym (c .before .before .before .before .before .before .before .before .before .before .before .before .before .enum-told .given .1) ∙ c .before .before .before .before .before .before .before .before .before .before .before .before .before .before .before .lowest-stop .ensures)) (times-read T (sym (c .before .before .before .before .before .before .before .before .before .before .enum-told2 .given .1) ∙ c .before .before .before .before .before .before .before .before .before .before .before .before .lowest-event .ensures)) (overtaken-read T (sym (c .before .before .before .before .before .before .before .enum-told3 .given .1) ∙ c .before .before .before .before .before .before .before .before .before .lowest-event2 .ensures)) (walks-read T (sym (c .before .before .before .before .enum-told4 .given .1) ∙ c .before .before .before .before .before .before .lowest-walk .ensures)) (open-read T (sym (c .before .p5 .given .1) ∙ c .before .before .before .lowest-open .ensures))
 
 enum-told-5 : tie.Need-enum-told-5
 enum-told-5 c = search needs
 
 returns-6 : tie.Need-returns-6
-returns-6 c = let a = c .before .before .before .before .before .before .before .before .before .before .before .before .before .before .before .before .before .before .before .before .before .args in let T = lent (a .heads) (a .routes) (a .positions) (a .arrivals) (a .departures) (a .walks) in whole-passed T (stops-read T (ap (λ (x : Totals). x .positions) (c .before .before .before .before .before .before .before .before .before .before .before .before .before .before .before .totals-of .ensures)) (sym (c .before .before .before .before .before .before .before .before .before .before .before .before .enum-told .given .1) ∙ c .before .before .before .before .before .before .before .before .before .before .before .before .before .before .lowest-stop .ensures)) (times-read T (sym (c .before .before .before .before .before .before .before .before .before .enum-told2 .given .1) ∙ c .before .before .before .before .before .before .before .before .before .before .before .lowest-time .ensures)) (overtaken-read T (sym (c .before .before .before .before .before .before .enum-told3 .given .1) ∙ c .before .before .before .before .before .before .before .before .lowest-overtaken .ensures)) (walks-read T (sym (c .before .before .before .enum-told4 .given .1) ∙ c .before .before .before .before .before .lowest-walk .ensures)) (open-read T (sym (c .enum-told5 .given .1) ∙ c .before .before .lowest-open .ensures))
+returns-6 c = let a = c .before .before .before .before .before .before .before .before .before .before .before .before .before .before .before .before .before .before .before .before .before .args in let T = lent (a .heads) (a .routes) (a .positions) (a .arrivals) (a .departures) (a .walks) in whole-passed T (stops-read T (ap (λ (x : Totals). x .positions) (c .before .before .before .before .before .before .before .before .before .before .before .before .before .before .before .totals-of .ensures)) (sym (c .before .before .before .before .before .before .before .before .before .before .before .before .enum-told .given .1) ∙ c .before .before .before .before .before .before .before .before .before .before .before .before .before .before .lowest-stop .ensures)) (times-read T (sym (c .before .before .before .before .before .before .before .before .before .enum-told2 .given .1) ∙ c .before .before .before .before .before .before .before .before .before .before .before .lowest-event .ensures)) (overtaken-read T (sym (c .before .before .before .before .before .before .enum-told3 .given .1) ∙ c .before .before .before .before .before .before .before .before .lowest-event2 .ensures)) (walks-read T (sym (c .before .before .before .enum-told4 .given .1) ∙ c .before .before .before .before .before .lowest-walk .ensures)) (open-read T (sym (c .enum-told5 .given .1) ∙ c .before .before .lowest-open .ensures))
 
 pub whole-fault-spec : {M : Type 1} → statement M
 whole-fault-spec =
@@ -82,11 +82,11 @@ whole-fault-spec =
     enum-known-p
     returns
     enum-told
-    lowest-time-requires
+    lowest-event-requires
     enum-known-p-2
     returns-2
     enum-told-2
-    lowest-overtaken-requires
+    lowest-event-requires-2
     enum-known-p-3
     returns-3
     enum-told-3

@@ -1,9 +1,11 @@
 -- `feed::body::sum_fits` meets its contract: the sum of all but the last two bytes.
 use borrow.Author.Needs.{needs}
 use mathlib.Core.Path.{sym}
+use Prim.Native.Nat.{_-_}
 use native.Mathlib.Omega.{arith}
+use lib.ListN.{length}
 use lib.Seq.{length-take-le}
-use Rattle.feed.proofs.Top.{sum-first, sum-not}
+use Rattle.feed.proofs.Top.{from-start, sum-first, sum-not}
 use Rattle.feed.proofs.body.sum_fits.Statement.{statement}
 use Rattle.feed.proofs.body.sum_fits.Tie as tie
 
@@ -16,23 +18,23 @@ slice-aggregate-fletcher c = sym (length-take-le _ (c .before .before .args .f .
 fletcher-requires : tie.Need-fletcher-requires
 fletcher-requires c κs = search needs
 
-sub-byte-at : tie.Need-sub-byte-at
-sub-byte-at c = search needs
+sub-byte-in : tie.Need-sub-byte-in
+sub-byte-in c = search needs
 
-byte-at-requires : tie.Need-byte-at-requires
-byte-at-requires c κs = search needs
+byte-in-requires : tie.Need-byte-in-requires
+byte-in-requires c κs = search needs
 
-sub-byte-at-2 : tie.Need-sub-byte-at-2
-sub-byte-at-2 c = search needs
+sub-byte-in-2 : tie.Need-sub-byte-in-2
+sub-byte-in-2 c = search needs
 
-byte-at-requires-2 : tie.Need-byte-at-requires-2
-byte-at-requires-2 c κs = search needs
+byte-in-requires-2 : tie.Need-byte-in-requires-2
+byte-in-requires-2 c κs = search needs
 
 returns : tie.Need-returns
-returns c = sum-first (c .before .before .before .before .before .before .args .f .now) (c .before .before .byte-at .ensures .is) (c .before .before .before .fletcher .ensures .is) (c .before .if1 .taken) (c .byte-at2 .ensures .is)
+returns c = sum-first (c .before .before .before .before .before .before .args .f .now) (from-start (c .before .before .before .before .before .before .args .f .now) (length (c .before .before .before .before .before .before .args .f .now) - 2) (c .before .before .byte-in .ensures .is)) (c .before .before .before .fletcher .ensures .is) (c .before .if1 .taken) (from-start (c .before .before .before .before .before .before .args .f .now) (length (c .before .before .before .before .before .before .args .f .now) - 1) (c .byte-in2 .ensures .is))
 
 returns-2 : tie.Need-returns-2
-returns-2 c = sum-not (c .before .before .before .before .before .args .f .now) (c .before .byte-at .ensures .is) (c .before .before .fletcher .ensures .is) (c .if1 .left)
+returns-2 c = sum-not (c .before .before .before .before .before .args .f .now) (from-start (c .before .before .before .before .before .args .f .now) (length (c .before .before .before .before .before .args .f .now) - 2) (c .before .byte-in .ensures .is)) (c .before .before .fletcher .ensures .is) (c .if1 .left)
 
 pub sum-fits-spec : {M : Type 1} → statement M
 sum-fits-spec =
@@ -41,9 +43,9 @@ sum-fits-spec =
     sub-fletcher
     slice-aggregate-fletcher
     fletcher-requires
-    sub-byte-at
-    byte-at-requires
-    sub-byte-at-2
-    byte-at-requires-2
+    sub-byte-in
+    byte-in-requires
+    sub-byte-in-2
+    byte-in-requires-2
     returns
     returns-2)

@@ -7,22 +7,25 @@ use Rattle.feeds_main.proofs.networks.put_routes.Statement.{statement}
 use Rattle.feeds_main.proofs.networks.put_routes.Tie as tie
 
 abbrev Inv-loop : tie.InvT-loop
-Inv-loop routes₀ longest shape count seed used₀ r₀ routes used r = length routes ≡ length routes₀
+Inv-loop tables₀ k count seed used₀ r₀ tables used r = length tables ≡ length tables₀
 
 abbrev μ-loop : tie.MeasureT-loop
-μ-loop routes₀ longest shape count seed used₀ r₀ routes used r = count - r
+μ-loop tables₀ k count seed used₀ r₀ tables used r = count - r
 
 loop-holds : tie.Need-loop-holds Inv-loop μ-loop
 loop-holds c = search needs
 
-longest-route-requires : tie.Need-longest-route-requires Inv-loop μ-loop
-longest-route-requires c κs = search needs
-
-draw-route-requires : tie.Need-draw-route-requires Inv-loop μ-loop
-draw-route-requires c κs = search needs
+plan-route-requires : tie.Need-plan-route-requires Inv-loop μ-loop
+plan-route-requires c κs = search needs
 
 add-route-requires : tie.Need-add-route-requires Inv-loop μ-loop
 add-route-requires c κs = search needs
+
+next-requires : tie.Need-next-requires Inv-loop μ-loop
+next-requires c κs = search needs
+
+next-requires-2 : tie.Need-next-requires-2 Inv-loop μ-loop
+next-requires-2 c κs = search needs
 
 add-r : tie.Need-add-r Inv-loop μ-loop
 add-r c = search needs
@@ -46,9 +49,10 @@ put-routes-spec =
     Inv-loop
     μ-loop
     loop-holds
-    longest-route-requires
-    draw-route-requires
+    plan-route-requires
     add-route-requires
+    next-requires
+    next-requires-2
     add-r
     loop-less
     loop-again

@@ -7,16 +7,19 @@ use Rattle.feeds_main.proofs.networks.put_stops.Statement.{statement}
 use Rattle.feeds_main.proofs.networks.put_stops.Tie as tie
 
 abbrev Inv-loop : tie.InvT-loop
-Inv-loop positions₀ count stops seed s₀ i₀ positions s i = length positions ≡ length positions₀
+Inv-loop tables₀ count stops seed s₀ i₀ tables s i = length tables ≡ length tables₀
 
 abbrev μ-loop : tie.MeasureT-loop
-μ-loop positions₀ count stops seed s₀ i₀ positions s i = count - i
+μ-loop tables₀ count stops seed s₀ i₀ tables s i = count - i
 
 loop-holds : tie.Need-loop-holds Inv-loop μ-loop
 loop-holds c = search needs
 
 next-requires : tie.Need-next-requires Inv-loop μ-loop
 next-requires c κs = search needs
+
+plus-requires : tie.Need-plus-requires Inv-loop μ-loop
+plus-requires c κs = search needs
 
 drawn-requires : tie.Need-drawn-requires Inv-loop μ-loop
 drawn-requires c κs = search needs
@@ -47,6 +50,7 @@ put-stops-spec =
     μ-loop
     loop-holds
     next-requires
+    plus-requires
     drawn-requires
     put-requires
     add-i

@@ -1,4 +1,4 @@
--- `feeds_main::times::put_events` meets its contract: both tables keep their lengths.
+-- `feeds_main::times::put_events` meets its contract: the table keeps its length.
 use mathlib.Core.Path.{_≡_}
 use Prim.Native.Nat.{_-_}
 use lib.ListN.{length}
@@ -7,10 +7,10 @@ use Rattle.feeds_main.proofs.times.put_events.Statement.{statement}
 use Rattle.feeds_main.proofs.times.put_events.Tie as tie
 
 abbrev Inv-loop : tie.InvT-loop
-Inv-loop arrivals₀ departures₀ from to n seed s₀ time₀ i₀ e₀ arrivals departures s time i e = (length arrivals ≡ length arrivals₀) × (length departures ≡ length departures₀)
+Inv-loop tables₀ from to n seed s₀ time₀ i₀ e₀ tables s time i e = length tables ≡ length tables₀
 
 abbrev μ-loop : tie.MeasureT-loop
-μ-loop arrivals₀ departures₀ from to n seed s₀ time₀ i₀ e₀ arrivals departures s time i e = to - e
+μ-loop tables₀ from to n seed s₀ time₀ i₀ e₀ tables s time i e = to - e
 
 loop-holds : tie.Need-loop-holds Inv-loop μ-loop
 loop-holds c = search needs
@@ -39,9 +39,6 @@ loop-again c = search needs
 same-length : tie.Need-same-length Inv-loop μ-loop
 same-length c = search needs
 
-same-length-2 : tie.Need-same-length-2 Inv-loop μ-loop
-same-length-2 c = search needs
-
 returns : tie.Need-returns Inv-loop μ-loop
 returns c = search needs
 
@@ -60,5 +57,4 @@ put-events-spec =
     loop-less
     loop-again
     same-length
-    same-length-2
     returns)

@@ -1,4 +1,4 @@
--- `feeds_main::times::put_times` meets its contract: both tables keep their lengths.
+-- `feeds_main::times::put_times` meets its contract: the table keeps its length.
 use mathlib.Core.Path.{_≡_}
 use Prim.Native.Nat.{_-_}
 use lib.ListN.{length}
@@ -7,10 +7,10 @@ use Rattle.feeds_main.proofs.times.put_times.Statement.{statement}
 use Rattle.feeds_main.proofs.times.put_times.Tie as tie
 
 abbrev Inv-loop : tie.InvT-loop
-Inv-loop routes count events arrivals₀ departures₀ seed s₀ to₀ k₀ arrivals departures s to k = (length arrivals ≡ length arrivals₀) × (length departures ≡ length departures₀)
+Inv-loop tables₀ count events seed s₀ to₀ k₀ tables s to k = length tables ≡ length tables₀
 
 abbrev μ-loop : tie.MeasureT-loop
-μ-loop routes count events arrivals₀ departures₀ seed s₀ to₀ k₀ arrivals departures s to k = count - k
+μ-loop tables₀ count events seed s₀ to₀ k₀ tables s to k = count - k
 
 loop-holds : tie.Need-loop-holds Inv-loop μ-loop
 loop-holds c = search needs
@@ -48,9 +48,6 @@ loop-again c = search needs
 same-length : tie.Need-same-length Inv-loop μ-loop
 same-length c = search needs
 
-same-length-2 : tie.Need-same-length-2 Inv-loop μ-loop
-same-length-2 c = search needs
-
 returns : tie.Need-returns Inv-loop μ-loop
 returns c = search needs
 
@@ -72,5 +69,4 @@ put-times-spec =
     loop-less
     loop-again
     same-length
-    same-length-2
     returns)

@@ -9,7 +9,7 @@ returns : tie.Need-returns
 returns c = search needs
 
 slice-aggregate-feed : tie.Need-slice-aggregate-feed
-slice-aggregate-feed c = sym (length-take-le _ (c .before .before .before .before .before .before .before .before .args .out .now) (search needs))
+slice-aggregate-feed c = sym (length-take-le _ (c .before .before .before .before .args .out .now) (search needs))
 
 differing-back-requires : tie.Need-differing-back-requires
 differing-back-requires c κs = search needs

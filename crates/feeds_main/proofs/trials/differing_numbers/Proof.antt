@@ -5,10 +5,10 @@ use Rattle.feeds_main.proofs.trials.differing_numbers.Statement.{statem
 use Rattle.feeds_main.proofs.trials.differing_numbers.Tie as tie
 
 abbrev Inv-loop : tie.InvT-loop
-Inv-loop a b count₀ i₀ count i = i ≤ 2048
+Inv-loop a b count₀ i₀ count i = i ≤ 7936
 
 abbrev μ-loop : tie.MeasureT-loop
-μ-loop a b count₀ i₀ count i = 2048 - i
+μ-loop a b count₀ i₀ count i = 7936 - i
 
 loop-holds : tie.Need-loop-holds Inv-loop μ-loop
 loop-holds c = search needs

@@ -7,10 +7,10 @@ use Rattle.feeds_main.proofs.walks.put_group.Statement.{statement}
 use Rattle.feeds_main.proofs.walks.put_group.Tie as tie
 
 abbrev Inv-loop : tie.InvT-loop
-Inv-loop walks₀ count low high first end way seed w₀ a₀ walks w a = length walks ≡ length walks₀
+Inv-loop tables₀ count low high first end way seed w₀ a₀ tables w a = length tables ≡ length tables₀
 
 abbrev μ-loop : tie.MeasureT-loop
-μ-loop walks₀ count low high first end way seed w₀ a₀ walks w a = high - a
+μ-loop tables₀ count low high first end way seed w₀ a₀ tables w a = high - a
 
 loop-holds : tie.Need-loop-holds Inv-loop μ-loop
 loop-holds c = search needs

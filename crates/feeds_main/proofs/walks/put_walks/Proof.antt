@@ -7,10 +7,10 @@ use Rattle.feeds_main.proofs.walks.put_walks.Statement.{statement}
 use Rattle.feeds_main.proofs.walks.put_walks.Tie as tie
 
 abbrev Inv-loop : tie.InvT-loop
-Inv-loop walks₀ stops seed w₀ s₀ first₀ size₀ g₀ walks w s first size g = length walks ≡ length walks₀
+Inv-loop tables₀ stops seed w₀ s₀ first₀ size₀ g₀ tables w s first size g = length tables ≡ length tables₀
 
 abbrev μ-loop : tie.MeasureT-loop
-μ-loop walks₀ stops seed w₀ s₀ first₀ size₀ g₀ walks w s first size g = stops - g
+μ-loop tables₀ stops seed w₀ s₀ first₀ size₀ g₀ tables w s first size g = stops - g
 
 drawn-requires : tie.Need-drawn-requires Inv-loop μ-loop
 drawn-requires c κs = search needs

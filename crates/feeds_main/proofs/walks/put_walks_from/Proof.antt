@@ -7,10 +7,10 @@ use Rattle.feeds_main.proofs.walks.put_walks_from.Statement.{statement}
 use Rattle.feeds_main.proofs.walks.put_walks_from.Tie as tie
 
 abbrev Inv-loop : tie.InvT-loop
-Inv-loop walks₀ count a first end way seed w₀ b₀ walks w b = length walks ≡ length walks₀
+Inv-loop tables₀ count a first end way seed w₀ b₀ tables w b = length tables ≡ length tables₀
 
 abbrev μ-loop : tie.MeasureT-loop
-μ-loop walks₀ count a first end way seed w₀ b₀ walks w b = end - b
+μ-loop tables₀ count a first end way seed w₀ b₀ tables w b = end - b
 
 loop-holds : tie.Need-loop-holds Inv-loop μ-loop
 loop-holds c = search needs

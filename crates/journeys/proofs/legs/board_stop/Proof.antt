@@ -3,7 +3,7 @@ use mathlib.Core.Path.{ap}
 use Prim.Native.Nat.{_+_}
 use lib.ListN.{getD}
 use native.Mathlib.Omega.{arith}
-use Rattle.journeys.specs.declared.Extent.{Extent}
+use Rattle.extents.specs.declared.Extent.{Extent}
 use borrow.Author.Needs.{needs}
 use Rattle.journeys.proofs.legs.board_stop.Statement.{statement}
 use Rattle.journeys.proofs.legs.board_stop.Tie as tie

@@ -21,7 +21,7 @@ abbrev turn : need tie.After-put-leg-arg → need tie.In-loop
 turn c = c .before .before .before .before .before
 
 abbrev put : need tie.After-slice-known2 → need tie.After-put-leg-arg
-put c = c .before .before .before
+put c = c .before .before .before .before
 
 loop-holds : need tie.Need-loop-holds
 loop-holds c = tracing-start _ (c .before .before .before .before .before .before .before .pre)
@@ -35,26 +35,14 @@ step-back-requires c κs = tracing-stepping (c .before .loop .inv) (c .loop-test
 enum-known-leg : need tie.Need-enum-known-leg
 enum-known-leg c = search needs
 
-mul-put-leg : need tie.Need-mul-put-leg
-mul-put-leg c = let t = turn c .before .loop .inv in omega (arith, t .few, t .ok .few)
-
-sub-put-leg : need tie.Need-sub-put-leg
-sub-put-leg c = let t = turn c .before .loop .inv in omega (arith, t .few, turn c .loop-test .taken)
-
-cast-put-leg : need tie.Need-cast-put-leg
-cast-put-leg c = search needs
-
-mul-put-leg-2 : need tie.Need-mul-put-leg-2
-mul-put-leg-2 c = let t = turn c .before .loop .inv in omega (arith, t .few, t .ok .few)
-
-add-put-leg : need tie.Need-add-put-leg
-add-put-leg c = let t = turn c .before .loop .inv in omega (arith, t .few, t .ok .few)
+place-of-requires : need tie.Need-place-of-requires
+place-of-requires c κs = let t = turn c .before .loop .inv in record { few = t .ok .few; leg = omega (arith, t .few, turn c .loop-test .taken) }
 
 put-leg-requires : need tie.Need-put-leg-requires
 put-leg-requires c κs =
-    let d = turn c in
+    let d = turn (c .before) in
     let t = d .before .loop .inv in
-    omega (arith, t .few, t .ok .few, t .ok .legs-room, tracing-length t, d .loop-test .taken)
+    omega (arith, c .place-of .ensures, t .few, t .ok .few, t .ok .legs-room, tracing-length t, d .loop-test .taken)
 
 board-stop-requires : need tie.Need-board-stop-requires
 board-stop-requires c κs =
@@ -69,7 +57,7 @@ loop-again : need tie.Need-loop-again
 loop-again c =
     let a = put (c .before) in
     let d = turn a in
-    tracing-step (d .before .loop .inv) (d .loop-test .taken) (a .before .before .before .before .step-back .ensures) _ (a .before .before .leg .given .1) (c .before .before .before .put-leg .ensures) (c .board-stop .ensures)
+    tracing-step (d .before .loop .inv) (d .loop-test .taken) (a .before .before .before .before .step-back .ensures) _ (a .before .before .leg .given .1) (c .before .before .before .before .place-of .ensures) (c .before .before .before .put-leg .ensures) (c .board-stop .ensures)
 
 enum-told : need tie.Need-enum-told
 enum-told c = search needs
@@ -98,11 +86,7 @@ trace-spec =
     sub-j
     step-back-requires
     enum-known-leg
-    mul-put-leg
-    sub-put-leg
-    cast-put-leg
-    mul-put-leg-2
-    add-put-leg
+    place-of-requires
     put-leg-requires
     board-stop-requires
     loop-less

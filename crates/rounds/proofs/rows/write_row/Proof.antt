@@ -2,7 +2,6 @@
 use Prim.Native.Nat.{_-_}
 use mathlib.Core.Logic.{⊎-elim}
 use native.Mathlib.Omega.{arith}
-use denote.Ref.{now}
 use Rattle.rounds.proofs.Writing.{Writing, improves-now, improves-not, writing-start, writing-long, writing-step, writing-end}
 use borrow.Author.Needs.{needs}
 use Rattle.rounds.proofs.rows.write_row.Statement.{statement}
@@ -14,70 +13,85 @@ Inv-loop labels₀ k stops reach next base end improved₀ s₀ labels improved 
 abbrev μ-loop : tie.MeasureT-loop
 μ-loop labels₀ k stops reach next base end improved₀ s₀ labels improved s = stops - s
 
-mul-base : tie.Need-mul-base Inv-loop μ-loop
+abbrev need : (tie.InvT-loop → tie.MeasureT-loop → Type 0) → Type 0
+need N = N Inv-loop μ-loop
+
+-- from a place of the code to the places around it
+abbrev start : need tie.At-loop → need tie.Start
+start l = l .before .before .before .before
+
+abbrev turn : need tie.After-smaller2 → need tie.In-loop
+turn c = c .before .before .before .before .before
+
+mul-base : need tie.Need-mul-base
 mul-base c = search needs
 
-loop-holds : tie.Need-loop-holds Inv-loop μ-loop
-loop-holds c = let a = c .before .before .before .args in writing-start (now (a .labels)) (a .k) (a .stops) (now (a .reach)) (now (a .next))
+loop-holds : need tie.Need-loop-holds
+loop-holds c = writing-start _ _ _ _ _
 
-add-old : tie.Need-add-old Inv-loop μ-loop
+add-old : need tie.Need-add-old
 add-old c = search needs
 
-mul-old : tie.Need-mul-old Inv-loop μ-loop
+mul-old : need tie.Need-mul-old
 mul-old c = search needs
 
-slice-read-old : tie.Need-slice-read-old Inv-loop μ-loop
-slice-read-old c = let a = c .before .before .before .before .before .before .args in omega (arith, writing-long (now (a .labels)) (a .k) (a .stops) (now (a .reach)) (now (a .next)) (c .before .before .before .before .before .before .pre) (c .before .before .loop .inv))
+slice-read-old : need tie.Need-slice-read-old
+slice-read-old c =
+    let l = c .before .before in
+    omega (arith, writing-long _ _ _ _ _ (start l .pre) (l .loop .inv))
 
-mul-smaller : tie.Need-mul-smaller Inv-loop μ-loop
+mul-smaller : need tie.Need-mul-smaller
 mul-smaller c = search needs
 
-shared-slice-read-smaller : tie.Need-shared-slice-read-smaller Inv-loop μ-loop
+shared-slice-read-smaller : need tie.Need-shared-slice-read-smaller
 shared-slice-read-smaller c = search needs
 
-mul-smaller-2 : tie.Need-mul-smaller-2 Inv-loop μ-loop
+mul-smaller-2 : need tie.Need-mul-smaller-2
 mul-smaller-2 c = search needs
 
-shared-slice-read-smaller-2 : tie.Need-shared-slice-read-smaller-2 Inv-loop μ-loop
+shared-slice-read-smaller-2 : need tie.Need-shared-slice-read-smaller-2
 shared-slice-read-smaller-2 c = search needs
 
-smaller-requires : tie.Need-smaller-requires Inv-loop μ-loop
+smaller-requires : need tie.Need-smaller-requires
 smaller-requires c κs = search needs
 
-smaller-requires-2 : tie.Need-smaller-requires-2 Inv-loop μ-loop
+smaller-requires-2 : need tie.Need-smaller-requires-2
 smaller-requires-2 c κs = search needs
 
-add-labels : tie.Need-add-labels Inv-loop μ-loop
+add-labels : need tie.Need-add-labels
 add-labels c = search needs
 
-add-labels-2 : tie.Need-add-labels-2 Inv-loop μ-loop
+add-labels-2 : need tie.Need-add-labels-2
 add-labels-2 c = search needs
 
-mul-labels : tie.Need-mul-labels Inv-loop μ-loop
+mul-labels : need tie.Need-mul-labels
 mul-labels c = search needs
 
-slice-write-labels : tie.Need-slice-write-labels Inv-loop μ-loop
-slice-write-labels c = let a = c .before .before .before .before .before .before .before .before .before .before .args in omega (arith, writing-long (now (a .labels)) (a .k) (a .stops) (now (a .reach)) (now (a .next)) (c .before .before .before .before .before .before .before .before .before .before .pre) (c .before .before .before .before .before .before .loop .inv))
+slice-write-labels : need tie.Need-slice-write-labels
+slice-write-labels c =
+    let l = turn c .before in
+    omega (arith, writing-long _ _ _ _ _ (start l .pre) (l .loop .inv))
 
-add-s : tie.Need-add-s Inv-loop μ-loop
+add-s : need tie.Need-add-s
 add-s c = search needs
 
-loop-less : tie.Need-loop-less Inv-loop μ-loop
+loop-less : need tie.Need-loop-less
 loop-less c = search needs
 
-loop-again : tie.Need-loop-again Inv-loop μ-loop
+loop-again : need tie.Need-loop-again
 loop-again c =
-    let a = c .before .before .before .before .before .before .before .before .before .before .before .args in
+    let t = turn (c .before) in
+    let l = t .before in
     ⊎-elim
-    (λ w. rw (w .1) (writing-step (now (a .labels)) (a .k) (a .stops) (now (a .reach)) (now (a .next)) (c .before .before .before .before .before .before .before .before .before .before .before .pre) (c .before .before .before .before .before .before .before .loop .inv) (c .before .before .before .before .before .before .loop-test .taken) (c .before .before .smaller .ensures) (c .before .smaller2 .ensures) (improves-now (w .0 .taken))))
-    (λ w. rw (w .1) (writing-step (now (a .labels)) (a .k) (a .stops) (now (a .reach)) (now (a .next)) (c .before .before .before .before .before .before .before .before .before .before .before .pre) (c .before .before .before .before .before .before .before .loop .inv) (c .before .before .before .before .before .before .loop-test .taken) (c .before .before .smaller .ensures) (c .before .smaller2 .ensures) (improves-not (w .0 .left))))
+    (λ w. rw (w .1) (writing-step _ _ _ _ _ (start l .pre) (l .loop .inv) (t .loop-test .taken) (c .before .before .smaller .ensures) (c .before .smaller2 .ensures) (improves-now (w .0 .taken))))
+    (λ w. rw (w .1) (writing-step _ _ _ _ _ (start l .pre) (l .loop .inv) (t .loop-test .taken) (c .before .before .smaller .ensures) (c .before .smaller2 .ensures) (improves-not (w .0 .left))))
     (c .if1 .came)
 
-same-length : tie.Need-same-length Inv-loop μ-loop
-same-length c = let a = c .before .before .before .before .before .args in writing-long (now (a .labels)) (a .k) (a .stops) (now (a .reach)) (now (a .next)) (c .before .before .before .before .before .pre) (c .before .loop .inv)
+same-length : need tie.Need-same-length
+same-length c = let l = c .before in writing-long _ _ _ _ _ (start l .pre) (l .loop .inv)
 
-returns : tie.Need-returns Inv-loop μ-loop
-returns c = let a = c .before .before .before .before .before .args in writing-end (now (a .labels)) (a .k) (a .stops) (now (a .reach)) (now (a .next)) (c .before .before .before .before .before .pre) (c .before .loop .inv) (c .loop-test .left)
+returns : need tie.Need-returns
+returns c = let l = c .before in writing-end _ _ _ _ _ (start l .pre) (l .loop .inv) (c .loop-test .left)
 
 pub write-row-spec : {M : Type 1} → statement M
 write-row-spec =

@@ -1,3 +1,0 @@
-pub mod Put
-pub mod Printing
-pub mod Asking

@@ -1,0 +1,2 @@
+-- What the rules' proofs cite.
+pub mod Lowest

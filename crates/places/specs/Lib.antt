@@ -1,0 +1,2 @@
+-- What the rules' contracts cite.
+pub mod Place

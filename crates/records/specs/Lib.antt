@@ -1,0 +1,3 @@
+-- What the code holds while it reads records.
+pub mod Fields
+pub mod State

@@ -1,0 +1,66 @@
+-- `steps::boards` meets its contract: a stop that is not reached permits nobody, another whoever is there by the departure.
+use Rattle.steps.proofs.Leaves.{boards-unreached, boards-reached}
+use borrow.Author.Needs.{needs}
+use Rattle.steps.proofs.boards.Statement.{statement}
+use Rattle.steps.proofs.boards.Tie as tie
+
+add-at : tie.Need-add-at
+add-at c = search needs
+
+mul-here : tie.Need-mul-here
+mul-here c = search needs
+
+shared-slice-read-here : tie.Need-shared-slice-read-here
+shared-slice-read-here c = search needs
+
+cast-here : tie.Need-cast-here
+cast-here c = search needs
+
+mul-here-2 : tie.Need-mul-here-2
+mul-here-2 c = search needs
+
+shared-slice-read-here-2 : tie.Need-shared-slice-read-here-2
+shared-slice-read-here-2 c = search needs
+
+returns : tie.Need-returns
+returns c = boards-unreached _ _ _ _ _ _ (c .before .before .before .before .pre) (c .if1 .taken)
+
+cast-event : tie.Need-cast-event
+cast-event c = search needs
+
+mul-event : tie.Need-mul-event
+mul-event c = search needs
+
+add-event : tie.Need-add-event
+add-event c = search needs
+
+add-event-2 : tie.Need-add-event-2
+add-event-2 c = search needs
+
+mul-result : tie.Need-mul-result
+mul-result c = search needs
+
+shared-slice-read-result : tie.Need-shared-slice-read-result
+shared-slice-read-result c = search needs
+
+returns-2 : tie.Need-returns-2
+returns-2 c = boards-reached _ _ _ _ _ _ (c .before .before .before .before .before .before .before .pre) (c .before .before .before .if1 .left)
+
+pub boards-spec : {M : Type 1} → statement M
+boards-spec =
+    tie.close
+    (tie.spec
+    add-at
+    mul-here
+    shared-slice-read-here
+    cast-here
+    mul-here-2
+    shared-slice-read-here-2
+    returns
+    cast-event
+    mul-event
+    add-event
+    add-event-2
+    mul-result
+    shared-slice-read-result
+    returns-2)

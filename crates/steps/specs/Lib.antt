@@ -1,0 +1,2 @@
+-- What the contracts of the search cite.
+pub mod Search

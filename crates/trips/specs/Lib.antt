@@ -1,0 +1,4 @@
+-- What the functions of 7, 8 and 9 take and promise.
+pub mod Places
+pub mod Needed
+pub mod Folds
