@@ -24,18 +24,26 @@ use Rattle.trips.specs.Needed.{Laid}
 use Rattle.timetable.specs.Places.{totalsOf}
 use Rattle.timetable.specs.Needed.{Before}
 
--- the counts of one route are small
-pub record Small (n m : ℕ) : Type 0 where
-  pub n≤ : n ≤ 64
-  pub m≤ : m ≤ 512
-  pub cells≤ : n * m ≤ 32768
+-- the counts of one route are small, and so is their product
+pub record Small (a b n m : ℕ) : Type 0 where
+  pub n≤ : n ≤ a
+  pub m≤ : m ≤ b
+  pub cells≤ : n * m ≤ a * b
 
-pub small-of : (n m : ℕ) → (leb 2 n && leb n 64 && (leb 1 m && leb m 512)) ≡ true → Small n m
-small-of n m e =
-    let a = and-both (leb 2 n && leb n 64) (leb 1 m && leb m 512) e in
-    let x : n ≤ 64 = leb-true n 64 (and-both (leb 2 n) (leb n 64) (a .0) .1) in
-    let y : m ≤ 512 = leb-true m 512 (and-both (leb 1 m) (leb m 512) (a .1) .1) in
-    record { n≤ = x; m≤ = y; cells≤ = cells-most n m 64 512 x y }
+pub small-of : {a b : ℕ} (n m : ℕ) → (leb 2 n && leb n a && (leb 1 m && leb m b)) ≡ true → Small a b n m
+small-of {a} {b} n m e =
+    let t = and-both (leb 2 n && leb n a) (leb 1 m && leb m b) e in
+    let x : n ≤ a = leb-true n a (and-both (leb 2 n) (leb n a) (t .0) .1) in
+    let y : m ≤ b = leb-true m b (and-both (leb 1 m) (leb m b) (t .1) .1) in
+    record { n≤ = x; m≤ = y; cells≤ = cells-most n m a b x y }
+
+pub counted-if : (n m trips events : ℕ) → (leb 2 n && leb n 64 && (leb 1 m && leb m 512)) ≡ true → (leb (trips + m) 512 && leb (events + n * m) 2048) ≡ counted n m trips events
+unfolding counted
+counted-if n m trips events e = rw e
+
+pub counted-not : (n m trips events : ℕ) → (leb 2 n && leb n 64 && (leb 1 m && leb m 512)) ≡ false → false ≡ counted n m trips events
+unfolding counted
+counted-not n m trips events e = rw e
 
 -- the routes below r are right, and these are their sums
 pub record Summed (count : ℕ) (t1 : List ℕ) (r positions trips events : ℕ) : Type 0 where

@@ -39,7 +39,12 @@ shared-slice-read-put-event-2 : tie.Need-shared-slice-read-put-event-2 Inv-loop 
 shared-slice-read-put-event-2 c = omega (arith, c .before .before .before .before .before .before .before .before .before .before .before .before .pre .departures .there)
 
 put-event-requires : tie.Need-put-event-requires Inv-loop μ-loop
-put-event-requires c κs = record { arrival< = c .before .before .before .before .before .before .before .before .before .before .before .before .pre .arrivals .each (c .before .before .before .before .loop .i) (search needs); departure< = c .before .before .before .before .before .before .before .before .before .before .before .before .pre .departures .each (c .before .before .before .before .loop .i) (search needs); room = sending-room (c .before .before .before .before .loop .inv) (search needs) }
+put-event-requires c κs =
+    let p = c .before .before .before .before .before .before .before .before .before .before .before .before .pre in
+    let l = c .before .before .before .before .loop in
+    let a = p .arrivals .each (l .i) (search needs) in
+    let d = p .departures .each (l .i) (search needs) in
+    record { arrival< = omega (arith, a, d); departure< = omega (arith, a, d); room = sending-room (l .inv) (search needs) }
 
 add-i : tie.Need-add-i Inv-loop μ-loop
 add-i c = search needs

@@ -1,7 +1,6 @@
 -- `timetable::counts::counted`: once n and m are small, nothing that is added can wrap.
 use native.Mathlib.Omega.{arith}
-use Rattle.paper.specs.Rules.{counted}
-use Rattle.timetable.proofs.CountTests.{small-of}
+use Rattle.timetable.proofs.CountTests.{small-of, counted-if, counted-not}
 use Rattle.timetable.proofs.counts.counted.Statement.{statement}
 use Rattle.timetable.proofs.counts.counted.Tie as tie
 
@@ -15,12 +14,10 @@ add-result-2 : tie.Need-add-result-2
 add-result-2 c = let s = small-of (c .before .args .n) (c .before .args .m) (c .if1 .taken) in omega arith
 
 returns : tie.Need-returns
-unfolding counted
-returns c = rw (c .if1 .taken)
+returns c = counted-if _ _ _ _ (c .if1 .taken)
 
 returns-2 : tie.Need-returns-2
-unfolding counted
-returns-2 c = rw (c .if1 .left)
+returns-2 c = counted-not _ _ _ _ (c .if1 .left)
 
 pub counted-spec : {M : Type 1} → statement M
 counted-spec = tie.close (tie.spec add-result mul-result add-result-2 returns returns-2)
