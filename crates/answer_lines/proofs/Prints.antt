@@ -12,9 +12,10 @@ use Rattle.paper.specs.Lines.{journeysLine, refusedLine, entryLines, verdictLin
 use Rattle.paper.specs.declared.Answer.{Answer}
 use Rattle.paper.specs.declared.Verdict.{Verdict}
 use Rattle.answer_lines.specs.declared.Printed.{Printed}
-use Rattle.answer_lines.specs.Put.{Put, AnswerRoom}
+use Rattle.lettering.specs.Put.{Put}
+use Rattle.answer_lines.specs.Room.{AnswerRoom}
 use Rattle.answer_lines.specs.Printing.{printable, overlong, Prints}
-use Rattle.answer_lines.proofs.Puts.{put-append, put-same}
+use Rattle.lettering.proofs.Puts.{put-append, put-same}
 use Rattle.answer_lines.proofs.Looked.{none-long}
 
 pub prints-none : {b : Bool} {xs d : List ℕ} → b ≡ false → Prints b xs d d Printed.TooShort

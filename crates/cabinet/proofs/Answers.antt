@@ -8,7 +8,8 @@ use Rattle.paper.specs.Reply.{Reply}
 use Rattle.paper.specs.declared.Answer.{Answer}
 use Rattle.feed.proofs.One.{SameRead, one-reading, one-writing}
 use Rattle.planner.proofs.Starred.{Same, one-reply}
-use Rattle.cabinet.specs.Packed.{readingNumber, writingNumber, verdictNumber, entriesAfter, Reads, Writes, Asks}
+use Rattle.packing.specs.Packed.{readingNumber, writingNumber, verdictNumber, entriesAfter}
+use Rattle.cabinet.specs.Calls.{Reads, Writes, Asks}
 
 pub one-read : {o : Outcome} {r s : ℕ} {h₀ h i p₀ p q a₀ a b d₀ d e g₀ g k : List ℕ}
     → (x : Reads o r h₀ h p₀ p a₀ a d₀ d g₀ g) (y : Reads o s h₀ i p₀ q a₀ b d₀ e g₀ k)

@@ -1,4 +1,2 @@
--- Laws of the packed answers and of the entries.
+-- No second answer of the cabinet's functions.
 pub mod Answers
-pub mod Entries
-pub mod Told

@@ -1,2 +1,2 @@
 -- What the cabinet's functions promise.
-pub mod Packed
+pub mod Calls

@@ -124,26 +124,27 @@ fn lends(name: &[u8], stops: u32, labels: &mut [u32], legs: &mut [u32]) {
     );
 }
 
+// The same with so many labels and legs, of 2400 and 400.
+fn lends_first(name: &[u8], stops: u32, labels: usize, legs: usize) {
+    let mut all_labels: [u32; 2400] = [KEPT; 2400];
+    let mut all_legs: [u32; 400] = [KEPT; 400];
+    if labels <= 2400 {
+        if legs <= 400 {
+            lends(
+                name,
+                stops,
+                &mut all_labels[..labels],
+                &mut all_legs[..legs],
+            );
+        }
+    }
+}
+
 // 6 comes first, and elements beyond the full size are never written.
 pub fn lent_tables() {
-    let mut labels_2303: [u32; 2303] = [KEPT; 2303];
-    let mut labels_2304: [u32; 2304] = [KEPT; 2304];
-    let mut labels_2400: [u32; 2400] = [KEPT; 2400];
-    let mut legs_319: [u32; 319] = [KEPT; 319];
-    let mut legs_400: [u32; 400] = [KEPT; 400];
-    lends(b"- labels 2303\n", 1, &mut labels_2303, &mut legs_400);
-    lends(b"- legs 319\n", 1, &mut labels_2304, &mut legs_319);
-    lends(b"- both too short\n", 1, &mut labels_2303, &mut legs_319);
-    lends(
-        b"- legs 319, and no stop\n",
-        0,
-        &mut labels_2304,
-        &mut legs_319,
-    );
-    lends(
-        b"- labels 2400, legs 400\n",
-        1,
-        &mut labels_2400,
-        &mut legs_400,
-    );
+    lends_first(b"- labels 2303\n", 1, 2303, 400);
+    lends_first(b"- legs 319\n", 1, 2304, 319);
+    lends_first(b"- both too short\n", 1, 2303, 319);
+    lends_first(b"- legs 319, and no stop\n", 0, 2304, 319);
+    lends_first(b"- labels 2400, legs 400\n", 1, 2400, 400);
 }

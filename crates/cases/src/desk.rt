@@ -112,10 +112,15 @@ fn set(desk: &mut [u32], both: bool, place: usize, value: u32) {
     }
 }
 
+// Which number is changed.
+fn place_of(desk: &[u32], table: u32) -> usize {
+    std::num::wrapping_add_usize(base_of(table), at(desk, 10) as usize)
+}
+
 // One number is another while checking, writing and asking are done.
 fn change(desk: &mut [u32]) {
     let table = at(desk, 9);
-    let place = std::num::wrapping_add_usize(base_of(table), at(desk, 10) as usize);
+    let place = place_of(desk, table);
     let old = at(desk, place);
     set(desk, table == 0, place, at(desk, 11));
     on_desk(desk, Doing::AllThree);

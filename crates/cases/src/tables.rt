@@ -1,7 +1,6 @@
 // Single elements of tables, and showing what tables hold.
 
-// "There is none", "unused" or "no walk".
-const MARK: u32 = 4294967295;
+use paper::MARK;
 
 // What stands in a table before it is lent.
 pub const KEPT: u32 = 777777;

@@ -52,8 +52,8 @@ filled-same n {k} {xs} {d₀} {d} f l e =
 
 -- ---- the answers of 7 to 11
 
--- when the walk ended at l, with the head counts x as they were read
-module _ (f h p a d g : List ℕ) (l : Last) where
+-- when the reading ended at l, with the head counts x as they were read
+module _ (f : List ℕ) {h p a d g : List ℕ} {l : Last} (pre : JudgeRoom l (tables (headsOf f) h p a d g)) where
   abbrev U₀ : Tables
   U₀ = tables (headsOf f) h p a d g
 
@@ -67,8 +67,8 @@ module _ (f h p a d g : List ℕ) (l : Last) where
     as-read : U₀ ≡ U₁
     as-read = λ i. tables (sym e i) h p a d g
 
-    pub answer-counts : JudgeRoom l U₀ → CountsRight U₁
-    answer-counts c = subst CountsRight as-read (c .well z)
+    pub answer-counts : CountsRight U₁
+    answer-counts = subst CountsRight as-read (pre .well z)
 
     answer-is : (o : Option Refusal) → firstBroken wholeRules U₁ ≡ o → readingOf (judged U₁ o) ≡ answerOf l U₀
     answer-is o k = simp (eq-eqb (l .bad) 0 z) (sym (ap judgedAs as-read ∙ ap (λ (q : Option Refusal). readingOf (judged U₁ q)) k))

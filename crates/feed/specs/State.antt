@@ -23,7 +23,7 @@ headsOf f = record { stops = byte f 3 + 1; routes = byte f 4; walks = two f 5 }
 abbrev pub judgedAs : Tables → Reading
 judgedAs T = readingOf (judged T (firstBroken wholeRules T))
 
--- where the walk through all records ended well, the tables read have right counts
+-- where the reading of all records ended well, the tables read have right counts
 pub record JudgeRoom (l : Last) (T : Tables) : Type 0 where
   pub small : l .at < 32768
   pub well : l .bad ≡ 0 → CountsRight T

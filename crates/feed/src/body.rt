@@ -57,7 +57,7 @@ fn heads_of(f: &[u8]) -> Heads
     }
 }
 
-// The answer when the walk through all records ended at l: a bad walk, 7 to 11, or done.
+// The answer when the reading of all records ended at l: a bad record, 7 to 11, or done.
 fn judge(
     f: &[u8],
     l: Last,

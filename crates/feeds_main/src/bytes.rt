@@ -1,118 +1,6 @@
 // Bytes of a feed by their offset; an offset that the feed does not have reads as 0 and sets nothing.
-ghost use mathlib.Core.Path.{_≡_};
-ghost use lib.ListN.{length};
 use crate::numbers::wide;
 use checksum::fletcher;
-
-// The feed of document 01's bridge network.
-fn bridge() -> [u8; 102]
-    ensures { λ r. ⌜ 102 ≡ length r ⌝ }
-{
-    [
-        0x54,
-        0x48,
-        0x01,
-        0x04,
-        0x02,
-        0x00,
-        0x01,
-        0x00,
-        0x66,
-        0x52,
-        0x54,
-        0x03,
-        0x00,
-        0x02,
-        0x00,
-        0x01,
-        0x02,
-        0x54,
-        0x50,
-        0x00,
-        0x00,
-        0x64,
-        0x00,
-        0x00,
-        0x64,
-        0x00,
-        0x00,
-        0xC8,
-        0x00,
-        0x00,
-        0xD2,
-        0x00,
-        0x01,
-        0x90,
-        0x00,
-        0x01,
-        0x90,
-        0x54,
-        0x50,
-        0x00,
-        0x01,
-        0x2C,
-        0x00,
-        0x01,
-        0x2C,
-        0x00,
-        0x01,
-        0x90,
-        0x00,
-        0x01,
-        0x9A,
-        0x00,
-        0x02,
-        0x58,
-        0x00,
-        0x02,
-        0x58,
-        0x52,
-        0x54,
-        0x02,
-        0x00,
-        0x02,
-        0x01,
-        0x03,
-        0x54,
-        0x50,
-        0x00,
-        0x00,
-        0xCD,
-        0x00,
-        0x00,
-        0xCD,
-        0x00,
-        0x00,
-        0xFA,
-        0x00,
-        0x00,
-        0xFA,
-        0x54,
-        0x50,
-        0x00,
-        0x01,
-        0x04,
-        0x00,
-        0x01,
-        0x04,
-        0x00,
-        0x01,
-        0x40,
-        0x00,
-        0x01,
-        0x40,
-        0x57,
-        0x4B,
-        0x03,
-        0x02,
-        0x00,
-        0x1E,
-        0x45,
-        0x44,
-        0x2C,
-        0x7B,
-    ]
-}
 
 pub fn byte(feed: &[u8], at: usize) -> u8 {
     if at < feed.len() { feed[at] } else { 0 }
@@ -125,13 +13,28 @@ pub fn put(feed: &mut [u8], at: usize, value: u32) {
     }
 }
 
-// The bridge network's feed, and zeros behind it.
-pub fn put_bridge(feed: &mut [u8]) {
-    let known = bridge();
+// The bytes, and zeros behind them.
+fn copy(bytes: &[u8], feed: &mut [u8]) {
     let n = feed.len();
     for i in 0..n {
-        put(feed, i, wide(byte(&known, i)));
+        put(feed, i, wide(byte(bytes, i)));
     }
+}
+
+// The feed of document 01's bridge network, a record to a line, and zeros behind it.
+pub fn put_bridge(feed: &mut [u8]) {
+    copy(
+        b"\x54\x48\x01\x04\x02\x00\x01\x00\x66\
+          \x52\x54\x03\x00\x02\x00\x01\x02\
+          \x54\x50\x00\x00\x64\x00\x00\x64\x00\x00\xC8\x00\x00\xD2\x00\x01\x90\x00\x01\x90\
+          \x54\x50\x00\x01\x2C\x00\x01\x2C\x00\x01\x90\x00\x01\x9A\x00\x02\x58\x00\x02\x58\
+          \x52\x54\x02\x00\x02\x01\x03\
+          \x54\x50\x00\x00\xCD\x00\x00\xCD\x00\x00\xFA\x00\x00\xFA\
+          \x54\x50\x00\x01\x04\x00\x01\x04\x00\x01\x40\x00\x01\x40\
+          \x57\x4B\x03\x02\x00\x1E\
+          \x45\x44\x2C\x7B",
+        feed,
+    );
 }
 
 // The sum of all bytes before it.
@@ -144,13 +47,17 @@ fn put_sum(feed: &mut [u8]) {
     }
 }
 
+// The lowest two bytes of the value, the higher first.
+fn put_two(feed: &mut [u8], at: usize, value: u32) {
+    put(feed, at, value / 256);
+    put(feed, std::num::wrapping_add_usize(at, 1), value);
+}
+
 // The end record, and the length before it.
 fn put_end(feed: &mut [u8]) {
     let n = feed.len();
-    put(feed, std::num::wrapping_sub_usize(n, 4), 0x45);
-    put(feed, std::num::wrapping_sub_usize(n, 3), 0x44);
-    put(feed, 7, (n / 256 % 256) as u32);
-    put(feed, 8, (n % 256) as u32);
+    put_two(feed, std::num::wrapping_sub_usize(n, 4), 0x4544);
+    put_two(feed, 7, (n % 65536) as u32);
     put_sum(feed);
 }
 

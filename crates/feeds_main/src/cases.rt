@@ -9,6 +9,7 @@ use crate::bytes::put_bridge;
 use crate::numbers::plus;
 use crate::numbers::print;
 use crate::numbers::wide;
+use crate::passing::Passed;
 use crate::passing::pass;
 use paper::Reading;
 use paper::Writing;
@@ -38,21 +39,6 @@ fn start() -> Line {
     }
 }
 
-fn print_reading(answer: Reading) {
-    match answer {
-        Reading::Done(heads) => {
-            io::write_all(1, b" done");
-            print(heads.stops);
-            print(heads.routes);
-            print(heads.walks);
-        }
-        Reading::Refused(number, place) => {
-            print(number);
-            print(place);
-        }
-    }
-}
-
 // What was read is written: the bytes, and how many of them differ from the feed's.
 fn print_writing(feed: &[u8], out: &[u8], answer: Writing) {
     io::write_all(1, b", written");
@@ -70,16 +56,29 @@ fn print_writing(feed: &[u8], out: &[u8], answer: Writing) {
     }
 }
 
+fn print_passed(feed: &[u8], out: &[u8], p: Passed) {
+    let reading = p.reading;
+    let writing = p.writing;
+    match reading {
+        Reading::Done(heads) => {
+            io::write_all(1, b" done");
+            print(heads.stops);
+            print(heads.routes);
+            print(heads.walks);
+            print_writing(feed, out, writing);
+        }
+        Reading::Refused(number, place) => {
+            print(number);
+            print(place);
+        }
+    }
+}
+
 // The feed is read, and written where it is accepted.
 fn run(feed: &mut [u8], out: &mut [u8], line: Line) {
     make_right(feed, line.right);
     let p = pass(feed, line.short, out, 0);
-    let reading = p.reading;
-    let writing = p.writing;
-    print_reading(reading);
-    if let Reading::Done(heads) = reading {
-        print_writing(feed, out, writing);
-    }
+    print_passed(feed, out, p);
     io::write_all(1, b"\n");
 }
 
@@ -94,33 +93,37 @@ fn run_parts(feed: &mut [u8], out: &mut [u8], line: Line) {
     }
 }
 
-// A number of the line is read.
-fn keep(feed: &mut [u8], line: Line) -> Line {
+// The line with one number more.
+fn counted(line: Line) -> Line {
     let value = line.value;
     let field = line.field;
     let mut l = line;
     l.field = plus(field, 1);
     l.value = 0;
-    if field < 4 {
-        match field {
-            0 => l.length = value,
-            1 => l.right = value,
-            2 => l.short = value,
-            _ => l.room = value,
-        }
-        return l;
+    match field {
+        0 => l.length = value,
+        1 => l.right = value,
+        2 => l.short = value,
+        3 => l.room = value,
+        _ => l.at = value,
     }
-    if field % 2 == 0 {
-        l.at = value;
-        return l;
-    }
-    put(feed, l.at as usize, value);
     l
 }
 
-// One byte more of what the line is, to its semicolon.
-fn say(line: Line, c: u8) -> Line {
+// The byte that the line's number sets, if it is the value behind an offset.
+fn set(feed: &mut [u8], line: Line) {
+    if (4 < line.field) & (line.field % 2 == 1) {
+        put(feed, line.at as usize, line.value);
+    }
+}
+
+// One byte more of what the line is, to its semicolon, or one digit more of a number.
+fn more(line: Line, c: u8) -> Line {
     let mut l = line;
+    if line.said {
+        l.value = line.value % 100000 * 10 + wide(c) % 16;
+        return l;
+    }
     if c == 0x3B {
         l.said = true;
         return l;
@@ -132,15 +135,11 @@ fn say(line: Line, c: u8) -> Line {
 
 // One byte more of the line.
 fn step(feed: &mut [u8], out: &mut [u8], line: Line, c: u8) -> Line {
-    if !line.said {
-        return say(line, c);
+    if !line.said | ((0x30 <= c) & (c <= 0x39)) {
+        return more(line, c);
     }
-    if (0x30 <= c) & (c <= 0x39) {
-        let mut l = line;
-        l.value = line.value % 100000 * 10 + wide(c) % 16;
-        return l;
-    }
-    let k = keep(feed, line);
+    set(feed, line);
+    let k = counted(line);
     if c != 0x0A {
         return k;
     }

@@ -41,6 +41,12 @@ fn number_of(answer: Reading) -> u32 {
     }
 }
 
+// One more of this number.
+fn count(counts: &mut [u32], number: u32) {
+    let so_far = get(counts, number);
+    crate::numbers::put(counts, number, plus(so_far, 1));
+}
+
 fn print_count(count: u32, number: u32) {
     if count != 0 {
         print(count);
@@ -61,9 +67,7 @@ fn damages_of(right: u32) {
     for i in 0..306 {
         let p = damaged(i / 3, i % 3, right, digest);
         let reading = p.reading;
-        let number = number_of(reading);
-        let count = get(&counts, number);
-        crate::numbers::put(&mut counts, number, plus(count, 1));
+        count(&mut counts, number_of(reading));
         digest = p.digest;
     }
     print_counts(&counts);

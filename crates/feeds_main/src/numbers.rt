@@ -1,4 +1,4 @@
-// Numbers that cannot leave their type: sums, a digest, and a generator that always gives the same numbers.
+// Where tables 2 to 5 begin, and numbers that cannot leave their type: sums, a digest, and a generator that always gives the same numbers.
 
 // Tables 1 to 5 stand one after the other in one table: where tables 2 to 5 begin.
 pub const POSITIONS: u32 = 256;

@@ -60,46 +60,20 @@ fn size(all: usize, table: u32, short: u32) -> usize
     all
 }
 
-// Reads the feed; the table `short` is lent one short. Table 0 is none.
-fn read_short(
-    feed: &[u8],
-    short: u32,
-    routes: &mut [u32],
-    positions: &mut [u32],
-    arrivals: &mut [u32],
-    departures: &mut [u32],
-    walks: &mut [u32],
-) -> Reading {
-    let a = size(routes.len(), 1, short);
-    let b = size(positions.len(), 2, short);
-    let c = size(arrivals.len(), 3, short);
-    let d = size(departures.len(), 4, short);
-    let e = size(walks.len(), 5, short);
-    feed::read(
-        feed,
-        &mut routes[..a],
-        &mut positions[..b],
-        &mut arrivals[..c],
-        &mut departures[..d],
-        &mut walks[..e],
-    )
-}
-
-// The feed is read into tables that hold `before`.
+// Reads the feed into tables that hold `before`; the table `short` is lent one short. Table 0 is none.
 pub fn read_feed(feed: &[u8], short: u32, before: u32) -> Read {
     let mut routes: [u32; 256] = [before; 256];
     let mut positions: [u32; 2048] = [before; 2048];
     let mut arrivals: [u32; 2048] = [before; 2048];
     let mut departures: [u32; 2048] = [before; 2048];
     let mut walks: [u32; 1536] = [before; 1536];
-    let answer = read_short(
+    let answer = feed::read(
         feed,
-        short,
-        &mut routes,
-        &mut positions,
-        &mut arrivals,
-        &mut departures,
-        &mut walks,
+        &mut routes[..size(256, 1, short)],
+        &mut positions[..size(2048, 2, short)],
+        &mut arrivals[..size(2048, 3, short)],
+        &mut departures[..size(2048, 4, short)],
+        &mut walks[..size(1536, 5, short)],
     );
     Read {
         answer,
@@ -108,8 +82,8 @@ pub fn read_feed(feed: &[u8], short: u32, before: u32) -> Read {
 }
 
 // The feed of the tables, in the front of `out`.
-pub fn write_of(heads: Heads, tables: [u32; 7936], out: &mut [u8]) -> Writing {
-    let all: &[u32] = &tables;
+pub fn write_of(heads: Heads, tables: &[u32; 7936], out: &mut [u8]) -> Writing {
+    let all = &tables[..];
     feed::write(
         heads,
         &all[0..256],
@@ -142,10 +116,9 @@ fn mixed_reading(digest: u32, answer: Reading) -> u32 {
 pub fn pass(feed: &[u8], short: u32, out: &mut [u8], digest: u32) -> Passed {
     let after = read_feed(feed, short, 7);
     let reading = after.answer;
-    let tables = after.tables;
-    let all = mixed_table(mixed_reading(digest, reading), &tables);
+    let all = mixed_table(mixed_reading(digest, reading), &after.tables);
     let writing = match reading {
-        Reading::Done(heads) => write_of(heads, tables, out),
+        Reading::Done(heads) => write_of(heads, &after.tables, out),
         Reading::Refused(number, place) => Writing::Refused(number, place),
     };
     Passed {

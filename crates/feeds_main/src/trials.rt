@@ -100,7 +100,7 @@ fn trial(k: u32, t: Totals) -> Totals {
     let mut tables: [u32; 7936] = [0; 7936];
     let mut out: [u8; 17869] = [0; 17869];
     let heads = network(k, &mut tables);
-    let answer = write_of(heads, tables, &mut out);
+    let answer = write_of(heads, &tables, &mut out);
     added(t, heads, &tables, &out, size_of(answer))
 }
 

@@ -1,5 +1,3 @@
 -- What the functions' proofs cite.
+pub mod Stands
 pub mod WalkTests
-pub mod Begins
-pub mod Seconds
-pub mod Closure

@@ -1,2 +1,2 @@
--- What the functions of 10 and 11 take and promise.
+-- What rule 10's functions read and need.
 pub mod Walks

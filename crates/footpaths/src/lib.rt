@@ -1,11 +1,11 @@
-// 10 and 11: each walk, and closed walks.
+// 10: each walk.
 ghost use mathlib.Core.Path.{_≡_};
-ghost use Rattle.paper.specs.Rules.{lowestOf, walkBroken, opens};
+ghost use Rattle.paper.specs.Rules.{lowestOf, walkBroken};
 ghost use Rattle.places.specs.Place.{placeOf};
-ghost use Rattle.footpaths.specs.Walks.{ofWalks, WalksLent, AtWalk, Walked, beginOf, BeginsPast, Begins, SecondsFrom, FromStop, OnWalk};
+ghost use Rattle.footpaths.specs.Walks.{ofWalks, WalksLent, AtWalk};
 use places::Place;
 
-// 10: one walk, and that it rises from the walk before it.
+// One walk, and that it rises from the walk before it.
 fn walk_broken(stops: u32, count: u32, walks: &[u32], w: u32) -> bool
     requires { ⌜ AtWalk (ofWalks stops count (now walks)) w ⌝ }
     ensures { λ r. ⌜ r ≡ walkBroken (ofWalks stops count (now (walks .entry))) w ⌝ }
@@ -19,12 +19,13 @@ fn walk_broken(stops: u32, count: u32, walks: &[u32], w: u32) -> bool
     }
     if 0 < w {
         let last = (w as usize - 1) * 3;
-        return !((walks[last] < from) | (walks[last] == from) & (walks[last + 1] < to));
+        let before = walks[last];
+        return !((before < from) | (before == from) & (walks[last + 1] < to));
     }
     false
 }
 
-// 10: the lowest broken walk.
+// The lowest broken walk.
 pub fn lowest_walk(stops: u32, count: u32, walks: &[u32]) -> Place
     requires { ⌜ WalksLent (ofWalks stops count (now walks)) ⌝ }
     ensures { λ r. ⌜ r ≡ placeOf (lowestOf count (walkBroken (ofWalks stops count (now (walks .entry))))) ⌝ }
@@ -32,94 +33,6 @@ pub fn lowest_walk(stops: u32, count: u32, walks: &[u32]) -> Place
     for w in 0..count {
         if walk_broken(stops, count, walks, w) {
             return Place::At(w);
-        }
-    }
-    Place::Nowhere
-}
-
-// The first walk, from k on, whose stop is s or a later one.
-fn begin_from(stops: u32, count: u32, walks: &[u32], s: u32, k: u32) -> u32
-    requires { ⌜ BeginsPast (ofWalks stops count (now walks)) s k ⌝ }
-    ensures { λ r. ⌜ r ≡ beginOf (ofWalks stops count (now (walks .entry))) s ⌝ }
-{
-    for w in k..count {
-        if walks[(w as usize) * 3] >= s {
-            return w;
-        }
-    }
-    count
-}
-
-// Where the walks of each stop begin, and after the last stop where they end.
-fn begins_of(stops: u32, count: u32, walks: &[u32]) -> [u32; 257]
-    requires { ⌜ Walked (ofWalks stops count (now walks)) ⌝ }
-    ensures { λ r. ⌜ Begins (ofWalks stops count (now (walks .entry))) r ⌝ }
-{
-    let mut begins: [u32; 257] = [0; 257];
-    let mut k: u32 = 0;
-    for s in 0..257 {
-        k = begin_from(stops, count, walks, s, k);
-        begins[s as usize] = k;
-    }
-    begins
-}
-
-// The seconds to walk from a to each stop: 0 to itself, and the mark where there is no walk.
-fn seconds_from(stops: u32, count: u32, walks: &[u32], begins: &[u32], a: u32) -> [u32; 256]
-    requires { ⌜ FromStop (ofWalks stops count (now walks)) (now begins) a ⌝ }
-    ensures { λ r. ⌜ SecondsFrom (ofWalks stops count (now (walks .entry))) a r ⌝ }
-{
-    let mut seconds: [u32; 256] = [4294967295; 256];
-    seconds[a as usize] = 0;
-    let first = begins[a as usize];
-    let end = begins[(a + 1) as usize];
-    for w in first..end {
-        let at = (w as usize) * 3;
-        seconds[walks[at + 1] as usize] = walks[at + 2];
-    }
-    seconds
-}
-
-// 11: walk v, a to b, is followed by a walk b to c, and no walk a to c takes no longer than both.
-// All walks that follow are tested: that is quicker than a way out at each.
-fn opens_at(stops: u32, count: u32, walks: &[u32], begins: &[u32], seconds: &[u32], v: u32) -> bool
-    requires { ⌜ OnWalk (ofWalks stops count (now walks)) (now begins) (now seconds) v ⌝ }
-    ensures { λ r. ⌜ r ≡ opens (ofWalks stops count (now (walks .entry))) v ⌝ }
-{
-    let at = (v as usize) * 3;
-    let b = walks[at + 1];
-    let first = begins[b as usize];
-    let end = begins[(b + 1) as usize];
-    let mut wrong = false;
-    for w in first..end {
-        let next = (w as usize) * 3;
-        let c = walks[next + 1];
-        let direct = seconds[c as usize];
-        let both = walks[at + 2] + walks[next + 2];
-        wrong = wrong | (both < direct);
-    }
-    wrong
-}
-
-// 11: the lowest walk that shows that the walks are not closed.
-pub fn lowest_open(stops: u32, count: u32, walks: &[u32]) -> Place
-    requires { ⌜ Walked (ofWalks stops count (now walks)) ⌝ }
-    ensures { λ r. ⌜ r ≡ placeOf (lowestOf count (opens (ofWalks stops count (now (walks .entry))))) ⌝ }
-{
-    if count == 0 {
-        return Place::Nowhere;
-    }
-    let begins = begins_of(stops, count, walks);
-    let mut from: u32 = 256;
-    let mut seconds: [u32; 256] = [0; 256];
-    for v in 0..count {
-        let a = walks[(v as usize) * 3];
-        if a != from {
-            from = a;
-            seconds = seconds_from(stops, count, walks, &begins, a);
-        }
-        if opens_at(stops, count, walks, &begins, &seconds, v) {
-            return Place::At(v);
         }
     }
     Place::Nowhere

@@ -12,18 +12,17 @@ use Rattle.laws.proofs.Lists.{getD-over, length-part, getD-part}
 use Rattle.laws.proofs.Checking.{or-none}
 use Rattle.paper.specs.Timetable.{Tables, nOf, routeOf}
 use Rattle.paper.specs.Journey.{Step, ride, rideWalk}
-use Rattle.paper.specs.Rows.{label, nextRow, rowOf}
+use Rattle.paper.specs.Rows.{label, rowIn, nextRow, rowOf}
 use Rattle.paper.specs.Tie.{firstStep, boardStop, legOf, legsOf}
 use Rattle.paper.specs.Reply.{questionBroken, labelsTable, legNumbers}
 use Rattle.paper.specs.declared.Leg.{Leg}
 use Rattle.paper.specs.declared.Question.{Question}
 use Rattle.paper.proofs.Usable.{Usable, usable-of, Asked}
 use Rattle.paper.proofs.Answers.{length-labels, labels-at, length-numbers}
-use Rattle.paper.proofs.Steps.{label-next, label-rides}
+use Rattle.paper.proofs.Steps.{label-read, label-next, label-rides}
 use Rattle.paper.proofs.Earliest.{length-row, row-in, row-mark}
 use Rattle.paper.proofs.Legs.{Gained, legs-step, legs-length, read-back}
-use Rattle.journeys.specs.ReadBack.{rowIn, stepIn, RidesAfter, legsIn, Leads, here, back, Readable}
-use Rattle.steps.proofs.Leaves.{label-read}
+use Rattle.journeys.specs.ReadBack.{stepIn, RidesAfter, legsIn, Leads, here, back, Readable}
 use Rattle.journeys.proofs.Tracing.{legs-in-step}
 
 -- ---- a good question

@@ -17,13 +17,12 @@ use Rattle.laws.proofs.Tests.{by-lt}
 use Rattle.laws.proofs.Below.{minBelow-next}
 use Rattle.laws.proofs.Lists.{length-pieces, pieces-same, length-over, over-over}
 use Rattle.paper.specs.Timetable.{Tables}
-use Rattle.paper.specs.Rows.{label, rowOf}
 use Rattle.paper.specs.Tie.{isEntry, entryOf, entriesBelow, entriesOf, legsOf}
 use Rattle.paper.specs.Reply.{zeroEntry, inNine, legNumbers, legsRow, legsTable}
 use Rattle.paper.specs.declared.Entry.{Entry}
 use Rattle.paper.specs.declared.Question.{Question}
 use Rattle.paper.proofs.Answers.{length-legs, length-row}
-use Rattle.paper.proofs.Entries.{entry-gained}
+use Rattle.paper.proofs.Entries.{atTarget, entry-gained}
 use Rattle.journeys.specs.declared.Listed.{Listed}
 use Rattle.journeys.specs.ReadBack.{legsIn, Traceable, listedAlso, Readable, ReadBack}
 use Rattle.laws.proofs.Runs.{mark-is, over-sets-piece, sets-marks, and-none}
@@ -38,16 +37,13 @@ nine-more es e l =
     rw (length-append, h, set-append-seam, append-assoc)
 
 module _ (T : Tables) (q : Question) where
-  abbrev atTarget : ℕ → ℕ
-  atTarget k = label (rowOf T q k) (q .target)
-
-  is-listed : (k : ℕ) {a b : ℕ} → a ≡ atTarget k → b ≡ minBelow k atTarget → a < b → isEntry T q k ≡ true
+  is-listed : (k : ℕ) {a b : ℕ} → a ≡ atTarget T q k → b ≡ minBelow k (atTarget T q) → a < b → isEntry T q k ≡ true
   unfolding isEntry
-  is-listed k ea eb l = lt-ltb (atTarget k) (minBelow k atTarget) (omega arith)
+  is-listed k ea eb l = lt-ltb (atTarget T q k) (minBelow k (atTarget T q)) (omega arith)
 
-  not-listed : (k : ℕ) {a b : ℕ} → a ≡ atTarget k → b ≡ minBelow k atTarget → b ≤ a → isEntry T q k ≡ false
+  not-listed : (k : ℕ) {a b : ℕ} → a ≡ atTarget T q k → b ≡ minBelow k (atTarget T q) → b ≤ a → isEntry T q k ≡ false
   unfolding isEntry
-  not-listed k ea eb l = le-ltb (atTarget k) (minBelow k atTarget) (omega arith)
+  not-listed k ea eb l = le-ltb (atTarget T q k) (minBelow k (atTarget T q)) (omega arith)
 
   entries-take : (k : ℕ) → isEntry T q k ≡ true → entriesBelow T q (k + 1) ≡ entriesBelow T q k ++ (entryOf T q k ∷ [])
   unfolding entriesBelow

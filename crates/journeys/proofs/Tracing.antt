@@ -8,6 +8,7 @@ use native.Mathlib.Omega.{arith}
 use lib.ListN.{length}
 use lib.Seq.{sets, length-sets}
 use Rattle.paper.specs.Timetable.{Tables, nOf}
+use Rattle.paper.specs.Rows.{rowIn}
 use Rattle.paper.specs.Tie.{boardStop, numbersOf}
 use Rattle.paper.specs.Reply.{legNumbers}
 use Rattle.paper.specs.declared.Leg.{Leg}
@@ -15,7 +16,7 @@ use Rattle.paper.proofs.Usable.{stop-is}
 use Rattle.steps.specs.declared.Found.{Found}
 use Rattle.steps.specs.declared.Found.the-variants.{Step, Nothing}
 use Rattle.steps.specs.Search.{foundOf, Searched}
-use Rattle.journeys.specs.ReadBack.{rowIn, stepIn, Stepping, Placed, placedStop, legsIn, Leads, here, back, Traceable}
+use Rattle.journeys.specs.ReadBack.{stepIn, Stepping, Placed, placedStop, legsIn, Leads, here, back, Traceable}
 use Rattle.paper.proofs.RouteEnds.{head-in, positions-in}
 use Rattle.laws.specs.Lists.{part}
 use Rattle.laws.proofs.Lists.{length-part, getD-part}

@@ -5,10 +5,10 @@ use mathlib.Core.List.{List, [], _∷_, _++_}
 use mathlib.Core.Option.{Option, none, some}
 use Prim.Native.Nat.{ℕ, zero, suc, _+_, _*_, _≤_, _<_}
 use lib.ListN.{length, getD, set}
-use Rattle.laws.specs.Lists.{part, over}
+use Rattle.laws.specs.Lists.{over}
 use Rattle.paper.specs.Rules.{Fit}
 use Rattle.paper.specs.Timetable.{Tables, nOf}
-use Rattle.paper.specs.Rows.{rideTo}
+use Rattle.paper.specs.Rows.{rowIn, rideTo}
 use Rattle.paper.specs.Tie.{firstStep, boardStop, entriesOf}
 use Rattle.paper.specs.Reply.{questionBroken, inNine, labelsTable, legsTable}
 use Rattle.paper.specs.declared.Leg.{Leg}
@@ -17,10 +17,6 @@ use Rattle.paper.specs.declared.Question.{Question}
 use Rattle.extents.specs.Extent.{extentOf}
 use Rattle.journeys.specs.declared.Listed.{Listed}
 use Rattle.steps.specs.Search.{stopIn}
-
--- "nine rows of 256": row k's labels of so many stops
-abbrev pub rowIn : List ℕ → ℕ → ℕ → List ℕ
-rowIn labels k stops = part (k * 256) (k * 256 + stops) labels
 
 -- the first last step to p at row k + 1's time that boards where row k permits it
 abbrev pub stepIn : Tables → List ℕ → ℕ → ℕ → Option Leg

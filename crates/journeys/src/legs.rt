@@ -12,8 +12,8 @@ use extents::extent_of;
 use paper::After;
 use paper::Heads;
 use paper::Leg;
+use paper::MARK;
 use steps::Found;
-use steps::MARK;
 use steps::last_step;
 
 // A leg as the legs table holds it: route, trip, boarding position, leaving position, stop walked to or the mark.

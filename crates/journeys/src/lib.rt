@@ -12,8 +12,8 @@ mod legs;
 use crate::legs::trace;
 use paper::Entry;
 use paper::Heads;
+use paper::MARK;
 use paper::Question;
-use steps::MARK;
 
 // The first `count` of the entries are those found, the others are zero.
 pub struct Listed {

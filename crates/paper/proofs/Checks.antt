@@ -11,6 +11,7 @@ use Rattle.laws.proofs.Below.{sumBelow-at}
 use Rattle.laws.proofs.Found.{some-none, orElse-none, given-false, firstFound-none, firstFound-never}
 use Rattle.paper.specs.Timetable.{Tables, nOf, mOf, positionsTo, tripsTo, eventsTo, routeOf}
 use Rattle.paper.specs.Rules.{Refusal, headsBroken, routeBroken, stopBroken, timeBroken, overtakes, eventOf, lowestOf, lowestTime, lowestOvertaken, walkBroken, opens, countRules, wholeRules, refusedBy, firstBroken, faultOf, Sound}
+use Rattle.paper.proofs.Written.{Counts, sound-counts}
 use Rattle.paper.proofs.Lowest.{given-nothing, lowest-none, lowest-passed}
 use Rattle.paper.proofs.Places.{heads-right, heads-whole, RouteRight, route-right, route-whole, stop-right, stop-whole, time-right, time-whole, order-right, order-whole, Rising, walk-right, walk-whole, open-right, open-whole}
 
@@ -151,23 +152,28 @@ module _ (T : Tables) where
 
   -- ---- from 01's words to the rules
 
-  counts-of : Sound T → CountsUnbroken T
+  pub route-of : Counts T → (r : ℕ) → r < T .routes → RouteRight T r
   unfolding tripsTo eventsTo
-  counts-of s =
+  route-of c r l =
+      let R = c .route r l in
       record {
-        heads = heads-whole T (record { stops≥ = s .stops≥; stops≤ = s .stops≤; routes≤ = s .routes≤; walks≤ = s .walks≤ });
-        routes = lowest-none (T .routes) (routeBroken T) (λ r l. route-whole T r (record {
-          counts = record {
-            n≥ = s .route r l .n≥;
-            n≤ = s .route r l .n≤;
-            m≥ = s .route r l .m≥;
-            m≤ = s .route r l .m≤;
-            trips≤ = omega (arith, sumBelow-at (T .routes) r (mOf T) l, s .trips≤);
-            events≤ = omega (arith, sumBelow-at (T .routes) r (λ q. nOf T q * mOf T q) l, s .events≤);
-          };
-          first-position = s .route r l .first-position;
-          first-event = s .route r l .first-event;
-        }));
+        counts = record {
+          n≥ = R .n≥;
+          n≤ = R .n≤;
+          m≥ = R .m≥;
+          m≤ = R .m≤;
+          trips≤ = omega (arith, sumBelow-at (T .routes) r (mOf T) l, c .trips≤);
+          events≤ = omega (arith, sumBelow-at (T .routes) r (λ q. nOf T q * mOf T q) l, c .events≤);
+        };
+        first-position = R .first-position;
+        first-event = R .first-event;
+      }
+
+  pub counts-of : Counts T → CountsUnbroken T
+  counts-of c =
+      record {
+        heads = heads-whole T (record { stops≥ = c .stops≥; stops≤ = c .stops≤; routes≤ = c .routes≤; walks≤ = c .walks≤ });
+        routes = lowest-none (T .routes) (routeBroken T) (λ r l. route-whole T r (route-of c r l));
       }
 
   times-none : Sound T → lowestTime T ≡ none
@@ -202,4 +208,4 @@ module _ (T : Tables) where
 
   pub none-of : Sound T → faultOf T ≡ none
   unfolding faultOf
-  none-of s = orElse-none (firstBroken wholeRules T) (counts-none (counts-of s)) ∙ whole-none s
+  none-of s = orElse-none (firstBroken wholeRules T) (counts-none (counts-of (sound-counts s))) ∙ whole-none s

@@ -20,7 +20,8 @@ use Rattle.paper.proofs.Earliest.{row-mark, row-le, rows-fall}
 use Rattle.paper.proofs.Legs.{Gained, legs-journey}
 
 module _ (T : Tables) (q : Question) where
-  abbrev atTarget : ℕ → ℕ
+  -- row k's arrival at the target
+  abbrev pub atTarget : ℕ → ℕ
   atTarget k = label (rowOf T q k) (q .target)
 
   -- an entry is a row that is earlier at the target than every row before it

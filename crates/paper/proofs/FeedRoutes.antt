@@ -16,9 +16,10 @@ use Rattle.laws.proofs.Fields.{Has, has-nil, has-cons, has-append, has-at, has-
 use Rattle.paper.specs.Timetable.{Tables, nOf, mOf, firstPosition, firstEvent, positionsTo, tripsTo, eventsTo}
 use Rattle.paper.specs.Rules.{RouteCounts}
 use Rattle.paper.specs.Feed.{tripBytes, routeBytes, routesBytes}
-use Rattle.paper.specs.Reading.{marked, stopsAt, Trips, tripAt, Routes, ridden, nextRoute, noRoutes}
+use Rattle.paper.specs.Reading.{marked, stopsAt, Trips, tripAt, Routes, routeRead, nextRoute, noRoutes}
+use Rattle.paper.proofs.Places.{Counted}
 use Rattle.paper.proofs.Written.{length-trips}
-use Rattle.paper.proofs.FeedRecords.{length-stops, length-times, Countable, Good, route-before}
+use Rattle.paper.proofs.FeedRecords.{length-stops, length-times, Good, route-before}
 use Rattle.paper.proofs.FeedTrips.{Front, front-trans, front-pushed, arrivalsOf, departuresOf, noTrips, trips-closed, has-two-then, has-marked, has-trips}
 
 -- ---- one good step, in closed form, with the n and m that were read
@@ -28,7 +29,7 @@ record Step (f : List ℕ) (e n m : ℕ) (w v : Routes) : Type 0 where
   isN : byte f (w .at + 2) ≡ n
   isM : two f (w .at + 3) ≡ m
   mark : marked f e (w .at) 5 0x52 0x54 ≡ true
-  count : Countable n m (w .trips) (length (w .t3))
+  count : Counted n m (w .trips) (length (w .t3))
   fits : w .at + 5 + n ≤ e
   rides : iterate m (tripAt f e n) (noTrips f e n (w .at + 5 + n) (w .t3) (w .t4)) .bad ≡ 0
   at : v .at ≡ w .at + 5 + n + (2 + 6 * n) * m
@@ -39,7 +40,7 @@ record Step (f : List ℕ) (e n m : ℕ) (w v : Routes) : Type 0 where
   t4 : v .t4 ≡ w .t4 ++ pieces m (departuresOf f e n (w .at + 5 + n) (w .t3) (w .t4))
 
 step : (f : List ℕ) (e : ℕ) (w : Routes) → nextRoute f e w .bad ≡ 0 → Step f e (byte f (w .at + 2)) (two f (w .at + 3)) w (nextRoute f e w)
-unfolding nextRoute ridden
+unfolding nextRoute routeRead
 step f e w h =
     let n : ℕ = byte f (w .at + 2) in
     let m : ℕ = two f (w .at + 3) in

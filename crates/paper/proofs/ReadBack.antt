@@ -17,11 +17,13 @@ use Rattle.laws.proofs.Below.{sumBelow-at, sumBelow-mono}
 use Rattle.laws.proofs.Lists.{length-part-of, part-is, length-pieces-sum}
 use Rattle.laws.proofs.Fields.{Has, has-left, has-right, has-at, has-byte, has-first, has-piece, has-equal-piece, read2}
 use Rattle.paper.specs.Timetable.{Tables, nOf, mOf, firstPosition, firstEvent, positionsTo, tripsTo, eventsTo, walkFrom, walkTo, walkSeconds}
-use Rattle.paper.specs.Rules.{Sound, firstBroken, wholeRules}
+use Rattle.paper.specs.Rules.{Sound, counted, firstBroken, wholeRules}
 use Rattle.paper.specs.Feed.{tripBytes, routeBytes, walkBytes, routesBytes, walksBytes, sizeOf, headBytes, summed, fletcherOf, feedOf}
-use Rattle.paper.specs.Reading.{Accepted, stopsAt, Trips, tripAt, Routes, ridden, nextRoute, noRoutes, Walks, nextWalk, Whole, ended, recordsOf, headBad, wholeOf, tablesIn, lengthRight, sumRight, judged, bodyOf, readOf}
+use Rattle.paper.specs.Reading.{Accepted, stopsAt, Trips, tripAt, Routes, routeRead, nextRoute, noRoutes, Walks, nextWalk, Whole, ended, recordsOf, headBad, wholeOf, tablesIn, lengthRight, sumRight, judged, bodyOf, readOf}
+use Rattle.paper.proofs.Places.{counted-whole}
+use Rattle.paper.proofs.Checks.{route-of}
 use Rattle.paper.proofs.Written.{Counts, sound-counts, length-route, length-walk, length-walks, length-routes-next, size-is, counts-longest}
-use Rattle.paper.proofs.FeedRecords.{marked-is, counted-is, route-is, route-good, walk-good}
+use Rattle.paper.proofs.FeedRecords.{marked-is, route-is, route-good, walk-good}
 use Rattle.paper.proofs.TripsBack.{trips-read, take-four, take-three, stops-are}
 use Rattle.paper.specs.Demands.{Exact}
 
@@ -66,7 +68,7 @@ module _ (T : Tables) (C : Counts T) (E : Exact T) where
     route-at r l = has-piece f 9 (T .routes) (routeBytes T) r l has
 
     route-reads : (r : ℕ) → r < T .routes → nextRoute f e (prefix r) ≡ prefix (suc r)
-    unfolding prefix ridden routeBytes positionsTo eventsTo tripsTo sumBelow
+    unfolding prefix routeRead routeBytes positionsTo eventsTo tripsTo sumBelow
     route-reads r l =
         let R = C .route r l in
         let n : ℕ = nOf T r in
@@ -86,15 +88,7 @@ module _ (T : Tables) (C : Counts T) (E : Exact T) where
         let lr = length-route T r (stops-fit r l) in
         let l2 : length (take (positionsTo T r) (T .t2)) ≡ positionsTo T r = length-take-le _ (T .t2) (omega (arith, E .positions)) in
         let l3 : length (take (eventsTo T r) (T .t3)) ≡ eventsTo T r = length-take-le _ (T .t3) (omega (arith, E .arrivals)) in
-        let g = counted-is n m (tripsTo T r) (length (take (eventsTo T r) (T .t3)))
-        (record {
-          n≥ = R .n≥;
-          n≤ = R .n≤;
-          m≥ = R .m≥;
-          m≤ = R .m≤;
-          trips≤ = omega (arith, C .trips≤);
-          events≤ = rw l3 (omega (arith, C .events≤));
-        }) in
+        let g : counted n m (tripsTo T r) (length (take (eventsTo T r) (T .t3))) ≡ true = rw l3 (counted-whole n m _ _ (route-of T C r l .counts)) in
         let hv : Has f (at + 5 + n) (pieces m (λ j. tripBytes T n (eventsTo T r + j * n)))
         = subst (λ (v : ℕ). Has f (at + 5 + n) (pieces m (λ j. tripBytes T n (v + j * n)))) (R .first-event) (has-at f _ _ _ (ap (λ (k : ℕ). at + 5 + k) ls) ht) in
         let q : iterate m (tripAt f e n) (record { bad = 0; at = at + 5 + n; t3 = take (eventsTo T r) (T .t3); t4 = take (eventsTo T r) (T .t4) })

@@ -6,12 +6,13 @@ use Prim.Native.Nat.{ℕ, _+_, _≤_, _<_, min}
 use native.Mathlib.Omega.{arith}
 use borrow.Author.Tests.{eqb-true, eq-eqb}
 use lib.Dec.{eqb}
-use lib.ListN.{length, List·getD-eq-default}
+use lib.ListN.{length, getD, List·getD-eq-default}
 use Rattle.laws.specs.Below.{mark, only, minBelow}
 use Rattle.laws.specs.Lists.{tab}
 use Rattle.laws.proofs.Tests.{min-is, by-lt}
 use Rattle.laws.proofs.Below.{only-true, only-hit, minBelow-le, minBelow-hit, minBelow-mark}
 use Rattle.laws.proofs.Lists.{length-tab, getD-tab}
+use Rattle.laws.proofs.Runs.{getD-default}
 use Rattle.paper.specs.Timetable.{Tables, walkFrom, walkTo, walkSeconds}
 use Rattle.paper.specs.Rows.{label, rideTo, walkIn, ridesFrom, nextRow}
 use Rattle.paper.specs.Journey.{Ride, Walk, Step, ride, rideWalk}
@@ -21,6 +22,11 @@ use Rattle.paper.proofs.Usable.{Usable}
 pub label-tab : (k : ℕ) (f : ℕ → ℕ) (s : ℕ) → s < k → label (tab k f) s ≡ f s
 unfolding label
 label-tab k f s h = getD-tab k f s mark h
+
+-- within a row a label is the element
+pub label-read : (row : List ℕ) (s : ℕ) → s < length row → label row s ≡ getD row s 0
+unfolding label
+label-read row s h = getD-default row s mark 0 h
 
 -- past a row stands the mark
 pub label-out : (row : List ℕ) (s : ℕ) → length row ≤ s → label row s ≡ mark

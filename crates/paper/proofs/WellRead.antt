@@ -2,45 +2,25 @@
 use mathlib.Core.Path.{_≡_, refl, sym, ap, _∙_, subst}
 use mathlib.Core.List.{List, [], _∷_, _++_}
 use mathlib.Core.Option.{none}
-use Prim.Native.Nat.{ℕ, zero, suc, _+_, _*_, _-_, _≤_, _<_}
+use Prim.Native.Nat.{ℕ, zero, suc, _+_, _*_, _-_, _<_}
 use native.Mathlib.Omega.{arith}
 use lib.ListN.{length, length-append}
 use Rattle.laws.specs.Below.{iterate}
 use Rattle.laws.specs.Fields.{byte, two}
-use Rattle.laws.proofs.Below.{sumBelow-at}
-use Rattle.paper.specs.Timetable.{Tables, nOf, mOf, tripsTo, eventsTo}
-use Rattle.paper.specs.Rules.{firstBroken, countRules, routeBroken}
+use Rattle.paper.specs.Timetable.{Tables}
+use Rattle.paper.specs.Rules.{firstBroken, countRules}
 use Rattle.paper.specs.Reading.{Routes, nextRoute, noRoutes, Walks, nextWalk, Whole, ended, recordsOf, wholeOf, tablesIn}
 use Rattle.paper.proofs.Written.{Counts}
 use Rattle.paper.proofs.FeedRecords.{walk-good, walk-before}
 use Rattle.paper.proofs.FeedTrips.{front-same}
 use Rattle.paper.proofs.FeedRoutes.{Upto, upto}
-use Rattle.paper.proofs.Lowest.{lowest-none}
-use Rattle.paper.proofs.Places.{heads-whole, route-whole}
-use Rattle.paper.proofs.Checks.{counts-none}
+use Rattle.paper.proofs.Checks.{counts-none, counts-of}
 use Rattle.paper.specs.Demands.{Exact}
 use Rattle.paper.proofs.HeadRead.{head-counts, head-well, whole-records, last-well}
 
 -- right counts are refused by no rule of 5
 pub counts-unbroken : (T : Tables) → Counts T → firstBroken countRules T ≡ none
-unfolding tripsTo eventsTo
-counts-unbroken T c =
-    counts-none T
-    (record {
-      heads = heads-whole T (record { stops≥ = c .stops≥; stops≤ = c .stops≤; routes≤ = c .routes≤; walks≤ = c .walks≤ });
-      routes = lowest-none (T .routes) (routeBroken T) (λ r l. route-whole T r (record {
-        counts = record {
-          n≥ = c .route r l .n≥;
-          n≤ = c .route r l .n≤;
-          m≥ = c .route r l .m≥;
-          m≤ = c .route r l .m≤;
-          trips≤ = omega (arith, c .trips≤, sumBelow-at (T .routes) r (mOf T) l);
-          events≤ = omega (arith, c .events≤, sumBelow-at (T .routes) r (λ r. nOf T r * mOf T r) l);
-        };
-        first-position = c .route r l .first-position;
-        first-event = c .route r l .first-event;
-      }));
-    })
+counts-unbroken T c = counts-none T (counts-of T c)
 
 -- ---- the walks: three elements each
 

@@ -1,6 +1,6 @@
 -- The ways through `ask`, each with the reply that it ends in.
 use mathlib.Core.Path.{_≡_, refl, sym, ap, _∙_}
-use mathlib.Core.Bool.{true, false}
+use mathlib.Core.Bool.{Bool, true, false}
 use mathlib.Core.List.{List, [], _∷_, _++_}
 use mathlib.Core.Option.{none}
 use Prim.Native.Nat.{ℕ, _+_, _≤_, _<_}
@@ -55,14 +55,14 @@ module _ (T : Tables) (labels legs : List ℕ) (q : Question) where
   kept x e h = rw (replied (Kept x) e) (record { answer-is = h; labels-are = refl; legs-are = refl })
 
   -- 6
-  pub by-short : {n p : ℕ} → Fault.Refused n p ≡ faultAs (shortTable (lengthsOf T ++ (length labels ∷ length legs ∷ []))) →
+  pub by-short : {x : Fault} {n p : ℕ} → x ≡ Fault.Refused n p → x ≡ faultAs (shortTable (lengthsOf T ++ (length labels ∷ length legs ∷ []))) →
       {r : Answer} → r ≡ refused (refusal n p) → Replied (replyOf T labels legs q) r labels legs
   unfolding askOf orElse
-  by-short {n} {p} e = kept (refusal n p) (rw (refused-some (shortTable (lengthsOf T ++ (length labels ∷ length legs ∷ []))) n p e))
+  by-short {n = n} {p = p} told e = kept (refusal n p) (rw (refused-some (shortTable (lengthsOf T ++ (length labels ∷ length legs ∷ []))) n p (sym told ∙ e)))
 
-  module _ (long : Fault.Unbroken ≡ faultAs (shortTable (lengthsOf T ++ (length labels ∷ length legs ∷ [])))) where
+  module _ {x : Fault} (told : x ≡ Fault.Unbroken) (long : x ≡ faultAs (shortTable (lengthsOf T ++ (length labels ∷ length legs ∷ [])))) where
     long-enough : shortTable (lengthsOf T ++ (length labels ∷ length legs ∷ [])) ≡ none
-    long-enough = unbroken-none (shortTable (lengthsOf T ++ (length labels ∷ length legs ∷ []))) long
+    long-enough = unbroken-none (shortTable (lengthsOf T ++ (length labels ∷ length legs ∷ []))) (sym told ∙ long)
 
     room : (i : ℕ) → i < 7 → getD fullSizes i 0 ≤ getD (lengthsOf T ++ (length labels ∷ length legs ∷ [])) i 0
     unfolding shortTable
@@ -83,21 +83,24 @@ module _ (T : Tables) (labels legs : List ℕ) (q : Question) where
         }
 
     -- 5, 7 to 11
-    pub by-fault : {n p : ℕ} → Fault.Refused n p ≡ faultAs (faultOf T) →
+    pub by-fault : {y : Fault} {n p : ℕ} → y ≡ Fault.Refused n p → y ≡ faultAs (faultOf T) →
         {r : Answer} → r ≡ refused (refusal n p) → Replied (replyOf T labels legs q) r labels legs
     unfolding askOf orElse
-    by-fault {n} {p} e = kept (refusal n p) (rw (long-enough, refused-some (faultOf T) n p e))
+    by-fault {n = n} {p = p} found e = kept (refusal n p) (rw (long-enough, refused-some (faultOf T) n p (sym found ∙ e)))
 
-    module _ (sound : Fault.Unbroken ≡ faultAs (faultOf T)) where
+    module _ {y : Fault} (found : y ≡ Fault.Unbroken) (sound : y ≡ faultAs (faultOf T)) where
+      unbroken : faultOf T ≡ none
+      unbroken = unbroken-none (faultOf T) (sym found ∙ sound)
+
       -- 12
-      pub by-question : questionBroken T q ≡ true → {r : Answer} → r ≡ refused (refusal 12 0) → Replied (replyOf T labels legs q) r labels legs
+      pub by-question : {b : Bool} → b ≡ questionBroken T q → b ≡ true → {r : Answer} → r ≡ refused (refusal 12 0) → Replied (replyOf T labels legs q) r labels legs
       unfolding askOf orElse given
-      by-question e = kept (refusal 12 0) (rw (long-enough, unbroken-none (faultOf T) sound, e))
+      by-question e bad = kept (refusal 12 0) (rw (long-enough, unbroken, sym e ∙ bad))
 
       -- nothing before 13 refuses
-      pub ready : questionBroken T q ≡ false → Ready T labels legs q
-      ready e =
-          let g = good-of T q e in
+      pub ready : {b : Bool} → b ≡ questionBroken T q → b ≡ false → Ready T labels legs q
+      ready e well =
+          let g = good-of T q (sym e ∙ well) in
           record {
             t1≥ = room 0 (omega arith);
             t2≥ = room 1 (omega arith);
@@ -106,7 +109,7 @@ module _ (T : Tables) (labels legs : List ℕ) (q : Question) where
             t5≥ = room 4 (omega arith);
             labels≥ = room 5 (omega arith);
             legs≥ = room 6 (omega arith);
-            sound = sound-of T (unbroken-none (faultOf T) sound);
+            sound = sound-of T unbroken;
             start< = g .asked .start<;
             target< = g .asked .target<;
             time< = g .asked .time<;
@@ -133,10 +136,11 @@ module _ (T : Tables) (labels legs : List ℕ) (q : Question) (r : Ready T label
   searches e = replied T labels legs q _ (ready-asked T labels legs q r (none-of T (r .sound)) ∙ e)
 
   -- 13
-  pub by-budget : {n : ℕ} {labels′ legs′ : List ℕ} {x : Answer} → Rounds.Passed n ≡ roundsOf T q → labels′ ≡ labelsLeft T q labels →
+  pub by-budget : {y : Rounds} {n : ℕ} {labels′ legs′ : List ℕ} {x : Answer} → y ≡ Rounds.Passed n → y ≡ roundsOf T q → labels′ ≡ labelsLeft T q labels →
       x ≡ refused (refusal 13 n) → legs′ ≡ over (replicate 320 mark) legs → Replied (replyOf T labels legs q) x labels′ legs′
   unfolding roundsOf labelsLeft searched answerAs labelsAfter legsAfter
-  by-budget {n} e l h g =
+  by-budget {n = n} told is l h g =
+      let e : Rounds.Passed n ≡ roundsOf T q = sym told ∙ is in
       by-test (ltb (q .budget) (workOf T q))
       (λ t. let p : n ≡ passingRound T q = passed-same (e ∙ rw t) in
       rw (searches {a = Marked (refusal 13 (passingRound T q))} (rw t))
@@ -144,19 +148,21 @@ module _ (T : Tables) (labels legs : List ℕ) (q : Question) (r : Ready T label
       (λ t. let z : Rounds.Passed n ≡ Rounds.Within (workOf T q) = e ∙ rw t in absurd (passed-within z))
 
   -- within the budget: labels are right, and so are the work and what is listed
-  pub within-budget : {w : ℕ} {labels′ : List ℕ} → Rounds.Within w ≡ roundsOf T q → labels′ ≡ labelsLeft T q labels →
+  pub within-budget : {y : Rounds} {w : ℕ} {labels′ : List ℕ} → y ≡ Rounds.Within w → y ≡ roundsOf T q → labels′ ≡ labelsLeft T q labels →
       Readable T q labels′ (length legs)
   unfolding roundsOf labelsLeft
-  within-budget {w} e l =
+  within-budget {w = w} told is l =
+      let e : Rounds.Within w ≡ roundsOf T q = sym told ∙ is in
       by-test (ltb (q .budget) (workOf T q))
       (λ t. let z : Rounds.Passed (passingRound T q) ≡ Rounds.Within w = sym (e ∙ rw t) in absurd (passed-within z))
       (λ t. record { fit = fit; good = good; rest = labels; labels-are = l ∙ rw t; legs-room = r .legs≥ })
 
   -- 14, or the answer
-  pub by-entries : {w n : ℕ} {es : List Entry} {labels′ legs′ : List ℕ} {x : Answer} → Rounds.Within w ≡ roundsOf T q → labels′ ≡ labelsLeft T q labels →
+  pub by-entries : {y : Rounds} {w n : ℕ} {es : List Entry} {labels′ legs′ : List ℕ} {x : Answer} → y ≡ Rounds.Within w → y ≡ roundsOf T q → labels′ ≡ labelsLeft T q labels →
       ReadBack T q legs legs′ n es → x ≡ answerFrom w n es → Replied (replyOf T labels legs q) x labels′ legs′
   unfolding roundsOf labelsLeft searched answerAs labelsAfter legsAfter answerFrom
-  by-entries {w} {n} {es} e l b h =
+  by-entries {w = w} told is l b h =
+      let e : Rounds.Within w ≡ roundsOf T q = sym told ∙ is in
       by-test (ltb (q .budget) (workOf T q))
       (λ t. let z : Rounds.Passed (passingRound T q) ≡ Rounds.Within w = sym (e ∙ rw t) in absurd (passed-within z))
       (λ t. let p : w ≡ workOf T q = within-same (e ∙ rw t) in

@@ -1,64 +1,14 @@
 // The printer: the feed from `timetable.bin`, one line from standard input, the answer in 01's lines on standard output.
 ghost use Prim.Native.Nat.{_≤_};
 ghost use lib.ListN.{length};
-ghost use Rattle.paper.specs.Timetable.{lent};
-ghost use Rattle.paper.specs.Lines.{refusedLine, questionOf, questionLines, printed};
+ghost use Rattle.paper.specs.Lines.{printed};
 ghost use Rattle.io.specs.Counts.{Counts};
-ghost use Rattle.printer.specs.Says.{Says};
-use answer_lines::Printed;
+ghost use Rattle.dialogue.specs.Says.{Says};
+use dialogue::answer;
+use dialogue::refuse;
 use libc::STDIN_FILENO;
 use libc::STDOUT_FILENO;
-use paper::Heads;
 use paper::Reading;
-use question_line::Asked;
-
-// A refusal's line, and its length.
-fn refuse(number: u32, place: u32, out: &mut [u8]) -> usize
-    requires { ⌜ 4311 ≤ length (now out) ⌝ }
-    ensures { λ r. ⌜ Says (refusedLine number place) (now (out .entry)) (now (out .exit)) r ⌝ }
-{
-    match answer_lines::render_refusal(number, place, out) {
-        Printed::Done(n) => n,
-        Printed::TooShort => 0,
-    }
-}
-
-// The lines of the question in the input, asked of the timetable that was read.
-fn answer(
-    heads: Heads,
-    routes: &[u32],
-    positions: &[u32],
-    arrivals: &[u32],
-    departures: &[u32],
-    walks: &[u32],
-    input: &[u8],
-    out: &mut [u8],
-) -> usize
-    requires { ⌜ 4311 ≤ length (now out) ⌝ }
-    ensures { λ r. ⌜ Says (questionLines (lent heads (routes .entry) (positions .entry) (arrivals .entry) (departures .entry) (walks .entry)) (questionOf (now (input .entry)))) (now (out .entry)) (now (out .exit)) r ⌝ }
-{
-    let asked = question_line::parse(input);
-    let Asked::Line(q) = asked else {
-        return refuse(12, 0, out);
-    };
-    let mut labels: [u32; 2304] = [0; 2304];
-    let mut legs: [u32; 320] = [0; 320];
-    let found = planner::ask(
-        heads,
-        routes,
-        positions,
-        arrivals,
-        departures,
-        walks,
-        &mut labels,
-        &mut legs,
-        q,
-    );
-    match answer_lines::render(found, &legs, out) {
-        Printed::Done(n) => n,
-        Printed::TooShort => 0,
-    }
-}
 
 // All that is printed for a feed and an input.
 fn reply(feed: &[u8], input: &[u8], out: &mut [u8]) -> usize

@@ -1,8 +1,3 @@
--- Laws of reading records, for the functions' proofs.
-pub mod Held
-pub mod Marks
-pub mod Trip
-pub mod Route
-pub mod Routing
+-- Laws of reading walks and all records, for the functions' proofs.
 pub mod Walk
 pub mod Records

@@ -1,6 +1,5 @@
 -- Head, routes, walks and the end together.
 use mathlib.Core.Path.{_≡_, refl, sym, _∙_, subst}
-use mathlib.Core.Bool.{cond}
 use mathlib.Core.List.{List, []}
 use Prim.Native.Nat.{ℕ, _*_, _-_, _≤_, _<_}
 use native.Mathlib.Omega.{arith}
@@ -9,12 +8,17 @@ use lib.Dec.{eqb}
 use borrow.Author.Tests.{eq-eqb, ne-eqb}
 use Rattle.laws.specs.Below.{iterate}
 use Rattle.laws.specs.Fields.{byte, two}
+use Rattle.laws.proofs.Tests.{by-test}
 use Rattle.paper.specs.Reading.{Routes, nextRoute, noRoutes, nextWalk, recordsOf, headBad, headOnly, wholeOf}
-use Rattle.records.specs.State.{Holds, walksOf, WalkRoom, WalkedOn, RoutesRoom, RoutesDone, Near4, Fills, lastBad, RestRoom, walksFrom, RestDone, Ended, BodyRoom}
-use Rattle.records.specs.declared.routes.Mid.{Mid}
-use Rattle.records.specs.declared.walks.Foot.{Foot}
-use Rattle.records.specs.declared.Last.{Last}
 use Rattle.paper.proofs.HeadRead.{head-counts}
+use Rattle.head.specs.Head.{HeadDone}
+use Rattle.head.specs.declared.Head.{Head}
+use Rattle.route_records.specs.Keep.{Holds}
+use Rattle.route_records.specs.State.{RoutesRoom, RoutesDone}
+use Rattle.route_records.specs.declared.RoutesRead.{RoutesRead}
+use Rattle.records.specs.State.{walksOf, WalkRoom, WalksOn, Near4, Fills, lastBad, RestRoom, walksFrom, RestDone, Ended, BodyRoom}
+use Rattle.records.specs.declared.walks.WalksRead.{WalksRead}
+use Rattle.records.specs.declared.Last.{Last}
 
 -- ---- routes, walks and the end
 
@@ -32,14 +36,14 @@ module _ {f g : List ℕ} {e at : ℕ} (pre : RestRoom e at f g) {bad j : ℕ} (
         long5 = omega (arith, pre .walks≤, pre .long5);
       }
 
-  module _ {t : Foot} {g′ : List ℕ} (w : WalkedOn e (3 * j) (record { bad = bad; at = at; used = 0 })
+  module _ {t : WalksRead} {g′ : List ℕ} (w : WalksOn e (3 * j) (record { bad = bad; at = at; used = 0 })
       (iterate j (nextWalk f e) (walksOf (record { bad = bad; at = at; used = 0 }) g)) t g g′) where
     pub end-near : Near4 f (t .at)
     end-near = record { at≤ = omega (arith, w .within, pre .feed, pre .small); feed≤ = pre .small }
 
     pub rest-done : {b : ℕ} → b ≡ lastBad f (t .bad) (t .at) → RestDone (walksFrom f e bad at) f (record { bad = b; at = t .at }) g g′
     rest-done q =
-        let v = w .walked in
+        let v = w .held in
         rw (← ej)
         (record {
           small = end-near .at≤;
@@ -68,7 +72,7 @@ module _ {f h p a d g : List ℕ} (pre : HeadRoom f h p a d g) {k : ℕ} (ek : k
         long4 = pre .body .full .long4;
       }
 
-  module _ {q : Mid} {h′ p′ a′ d′ : List ℕ} (r : RoutesDone (length f - 4) k f q h h′ p p′ a a′ d d′) where
+  module _ {q : RoutesRead} {h′ p′ a′ d′ : List ℕ} (r : RoutesDone (length f - 4) k f q h h′ p p′ a a′ d d′) where
     pub rest-room : RestRoom (length f - 4) (q .at) f g
     rest-room =
         record {
@@ -86,49 +90,50 @@ module _ {f h p a d g : List ℕ} (pre : HeadRoom f h p a d g) {k : ℕ} (ek : k
         let n : ℕ = length f - 4 in
         let R : Routes = iterate k (nextRoute f n) noRoutes in
         let v : RestDone (walksFrom f n (R .bad) (R .at)) f l g g′
-        = subst (λ (x : ℕ × ℕ). RestDone (walksFrom f n (x .0) (x .1)) f l g g′) (λ i. (r .routed .bad i, r .routed .at i)) w in
+        = subst (λ (x : ℕ × ℕ). RestDone (walksFrom f n (x .0) (x .1)) f l g g′) (λ i. (r .held .bad i, r .held .at i)) w in
         rw (← ek)
         (record {
           small = w .small;
           bad = v .bad;
           at = v .at;
           filled = record {
-            routes = fills (r .heads≤) (r .routed .heads);
-            positions = fills (r .room .positions) (r .routed .positions);
-            arrivals = fills (r .room .events) (r .routed .arrivals);
-            departures = fills (r .room .events) (r .routed .departures);
+            routes = fills (r .heads≤) (r .held .heads);
+            positions = fills (r .room .positions) (r .held .positions);
+            arrivals = fills (r .room .events) (r .held .arrivals);
+            departures = fills (r .room .events) (r .held .departures);
             walks = v .walks;
           };
         })
 
 -- ---- the head
 
-pub head-room : {f h p a d g : List ℕ} → BodyRoom f h p a d g → {b : ℕ} → b ≡ headBad f → b ≡ 0 → HeadRoom f h p a d g
-head-room {f} room e z =
-    let c = head-counts f (sym e ∙ z) in
-    record { body = room; routes≤ = c .0; walks≤ = c .1 }
-
 fills-none : {n : ℕ} {d : List ℕ} → Fills n [] d d
 fills-none = record { fits = omega arith; is = refl }
 
-module _ (f : List ℕ) {b : ℕ} (e : b ≡ headBad f) {h p a d g : List ℕ} where
-  only-head : (at : ℕ) → at < 32768 → (b ≡ 0 → ⊥) → at ≡ cond (eqb b 4) 2 0 → Ended (wholeOf f) (record { bad = b; at = at }) h h p p a a d d g g
+place-small : {b : ℕ} {r : Head} → HeadDone b r → r .at < 32768
+unfolding headOnly
+place-small {b} {r} head =
+    by-test (eqb b 4)
+    (λ t. let e : r .at ≡ 2 = head .at ∙ simp t in omega arith)
+    (λ t. let e : r .at ≡ 0 = head .at ∙ simp t in omega arith)
+
+module _ (f : List ℕ) {r : Head} (head : HeadDone (headBad f) r) {h p a d g : List ℕ} where
+  pub head-room : BodyRoom f h p a d g → r .bad ≡ 0 → HeadRoom f h p a d g
+  head-room room z =
+      let c = head-counts f (sym (head .bad) ∙ z) in
+      record { body = room; routes≤ = c .0; walks≤ = c .1 }
+
+  pub ended-head : (r .bad ≡ 0 → ⊥) → Ended (wholeOf f) (record { bad = r .bad; at = r .at }) h h p p a a d d g g
   unfolding wholeOf headOnly
-  only-head at l z q =
-      simp (sym e, ne-eqb b 0 z)
+  ended-head z =
+      simp (ne-eqb (headBad f) 0 (λ y. z (head .bad ∙ y)))
       (record {
-        small = l;
-        bad = refl;
-        at = q;
+        small = place-small head;
+        bad = head .bad;
+        at = head .at;
         filled = record { routes = fills-none; positions = fills-none; arrivals = fills-none; departures = fills-none; walks = fills-none };
       })
 
-  pub ended-edition : b ≡ 4 → Ended (wholeOf f) (record { bad = 4; at = 2 }) h h p p a a d d g g
-  ended-edition z = rw z at (only-head 2 (omega arith) (λ x. omega arith) (simp (eq-eqb b 4 z)))
-
-  pub ended-head : (b ≡ 4 → ⊥) → (b ≡ 0 → ⊥) → Ended (wholeOf f) (record { bad = b; at = 0 }) h h p p a a d d g g
-  ended-head y z = only-head 0 (omega arith) z (simp (ne-eqb b 4 y))
-
-  pub ended-records : b ≡ 0 → {l : Last} {h′ p′ a′ d′ g′ : List ℕ} → Ended (recordsOf f (byte f 4) (two f 5)) l h h′ p p′ a a′ d d′ g g′ → Ended (wholeOf f) l h h′ p p′ a a′ d d′ g g′
+  pub ended-records : r .bad ≡ 0 → {l : Last} {h′ p′ a′ d′ g′ : List ℕ} → Ended (recordsOf f (byte f 4) (two f 5)) l h h′ p p′ a a′ d d′ g g′ → Ended (wholeOf f) l h h′ p p′ a a′ d d′ g g′
   unfolding wholeOf
-  ended-records z r = simp (sym e, eq-eqb b 0 z) r
+  ended-records z w = simp (eq-eqb (headBad f) 0 (sym (head .bad) ∙ z)) w

@@ -1,3 +1,2 @@
--- What the code holds while it reads records.
-pub mod Fields
+-- What the code holds while it reads all records.
 pub mod State

@@ -1,23 +1,19 @@
-// The records of a feed, from the left, into tables 1 to 5, for the layer above: it has checked the feed's length and cleared the tables.
+// All records of a feed, from the left, into tables 1 to 5, for the layer above: it has checked the feed's length and cleared the tables.
 ghost use mathlib.Core.Path.{_≡_};
-ghost use Prim.Native.Nat.{_≤_};
-ghost use lib.ListN.{length};
-ghost use Rattle.paper.specs.Reading.{ended, headBad, wholeOf};
+ghost use Rattle.paper.specs.Reading.{ended, wholeOf};
 ghost use Rattle.records.specs.State.{Near4, BodyRoom, lastBad, RestRoom, RestDone, walksFrom, Ended};
 
-mod routes;
-mod standing;
 mod walks;
 
-use crate::routes::read_routes;
-use crate::standing::stands;
-use crate::walks::Foot;
+use crate::walks::WalksRead;
 use crate::walks::read_walks;
-use fields::begins_in;
 use fields::byte_in;
 use fields::two_in;
+use head::read_head;
+use route_records::read_routes;
+use standing::stands;
 
-// Where the walk through all records ended, with the refusal's number or 0.
+// Where the reading of all records ended, with the refusal's number or 0.
 pub struct Last {
     pub bad: u32,
     pub at: usize,
@@ -55,32 +51,12 @@ fn read_rest(f: &[u8], e: usize, bad: u32, at: usize, walks: &mut [u32]) -> Last
     ensures { λ r. ⌜ RestDone (walksFrom (now (f .entry)) e bad at) (now (f .entry)) r (now (walks .entry)) (now (walks .exit)) ⌝ }
 {
     let w = two_in(f, 0, 5) as usize;
-    let s = Foot { bad, at, used: 0 };
+    let s = WalksRead { bad, at, used: 0 };
     let t = read_walks(f, e, w, s, walks);
     Last {
         bad: last_bad(f, t.bad, t.at),
         at: t.at,
     }
-}
-
-// The head: 0, or the refusal's number.
-fn head_at(f: &[u8]) -> u32
-    requires { ⌜ 13 ≤ length (now f) ⌝ }
-    ensures { λ r. ⌜ r ≡ headBad (now (f .entry)) ⌝ }
-{
-    if !begins_in(f, 0, 0x5448) {
-        return 3;
-    }
-    if byte_in(f, 0, 2) != 1 {
-        return 4;
-    }
-    if 64 < byte_in(f, 0, 4) {
-        return 5;
-    }
-    if 512 < two_in(f, 0, 5) {
-        return 5;
-    }
-    0
 }
 
 // All records: the head, the routes, and the rest.
@@ -95,12 +71,12 @@ pub fn read_whole(
     requires { ⌜ BodyRoom (now f) (now routes) (now positions) (now arrivals) (now departures) (now walks) ⌝ }
     ensures { λ r. ⌜ Ended (wholeOf (now (f .entry))) r (now (routes .entry)) (now (routes .exit)) (now (positions .entry)) (now (positions .exit)) (now (arrivals .entry)) (now (arrivals .exit)) (now (departures .entry)) (now (departures .exit)) (now (walks .entry)) (now (walks .exit)) ⌝ }
 {
-    let b = head_at(f);
-    if b == 4 {
-        return Last { bad: 4, at: 2 };
-    }
-    if b != 0 {
-        return Last { bad: b, at: 0 };
+    let h = read_head(f);
+    if h.bad != 0 {
+        return Last {
+            bad: h.bad,
+            at: h.at,
+        };
     }
     let e = f.len() - 4;
     let k = byte_in(f, 0, 4) as usize;

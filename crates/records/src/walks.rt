@@ -7,14 +7,14 @@ ghost use Rattle.laws.specs.Below.{iterate};
 ghost use Rattle.laws.specs.Lists.{over};
 ghost use Rattle.laws.specs.Fields.{byte, two};
 ghost use Rattle.paper.specs.Reading.{nextWalk};
-ghost use Rattle.records.specs.Fields.{CanPut};
-ghost use Rattle.records.specs.State.{walksOf, WalkRoom, WalkedOn};
-use crate::standing::stands;
+ghost use Rattle.route_records.specs.Keep.{CanPut};
+ghost use Rattle.records.specs.State.{walksOf, WalkRoom, WalksOn};
 use fields::byte_in;
 use fields::two_in;
+use standing::stands;
 
-// The walk through the walks: the refusal's number or 0, the offset, and how much table 5 holds.
-pub struct Foot {
+// The reading of the walks: the refusal's number or 0, the offset, and how much table 5 holds.
+pub struct WalksRead {
     pub bad: u32,
     pub at: usize,
     pub used: usize,
@@ -30,9 +30,9 @@ fn keep_walk(f: &[u8], at: usize, d: &mut [u32], k: usize)
     d[k + 2] = two_in(f, at, 2);
 }
 
-fn read_walk(f: &[u8], e: usize, s: Foot, d: &mut [u32]) -> Foot
+fn read_walk(f: &[u8], e: usize, s: WalksRead, d: &mut [u32]) -> WalksRead
     requires { ⌜ WalkRoom e 3 s (now f) (now d) ⌝ }
-    ensures { λ r. ⌜ WalkedOn e 3 s (nextWalk (now (f .entry)) e (walksOf s (now (d .entry)))) r (now (d .entry)) (now (d .exit)) ⌝ }
+    ensures { λ r. ⌜ WalksOn e 3 s (nextWalk (now (f .entry)) e (walksOf s (now (d .entry)))) r (now (d .entry)) (now (d .exit)) ⌝ }
 {
     let bad = s.bad;
     let at = s.at;
@@ -41,10 +41,10 @@ fn read_walk(f: &[u8], e: usize, s: Foot, d: &mut [u32]) -> Foot
         return s;
     }
     if !stands(f, e, at, 6, 87, 75) {
-        return Foot { bad: 3, at, used };
+        return WalksRead { bad: 3, at, used };
     }
     keep_walk(f, at + 2, d, used);
-    Foot {
+    WalksRead {
         bad: 0,
         at: at + 6,
         used: used + 3,
@@ -52,9 +52,9 @@ fn read_walk(f: &[u8], e: usize, s: Foot, d: &mut [u32]) -> Foot
 }
 
 // k walks, from s on.
-pub fn read_walks(f: &[u8], e: usize, k: usize, s: Foot, d: &mut [u32]) -> Foot
+pub fn read_walks(f: &[u8], e: usize, k: usize, s: WalksRead, d: &mut [u32]) -> WalksRead
     requires { ⌜ WalkRoom e (3 * k) s (now f) (now d) ⌝ }
-    ensures { λ r. ⌜ WalkedOn e (3 * k) s (iterate k (nextWalk (now (f .entry)) e) (walksOf s (now (d .entry)))) r (now (d .entry)) (now (d .exit)) ⌝ }
+    ensures { λ r. ⌜ WalksOn e (3 * k) s (iterate k (nextWalk (now (f .entry)) e) (walksOf s (now (d .entry)))) r (now (d .entry)) (now (d .exit)) ⌝ }
 {
     let mut q = s;
     let mut j: usize = 0;

@@ -16,12 +16,11 @@ use Rattle.laws.proofs.Tests.{by-test, by-lt}
 use Rattle.laws.proofs.Below.{only-false}
 use Rattle.laws.proofs.Lists.{length-tab, getD-tab, length-pieces, getD-pieces, length-part-of, getD-part, length-over, getD-over, getD-over-past, written-length, written-before, written-at, written-after}
 use Rattle.paper.specs.Timetable.{Tables}
-use Rattle.paper.specs.Rows.{label, nextRow, rowOf}
+use Rattle.paper.specs.Rows.{label, rowIn, nextRow, rowOf}
 use Rattle.paper.specs.Reply.{labelsTable}
 use Rattle.paper.specs.declared.Question.{Question}
-use Rattle.paper.proofs.Steps.{label-out}
-use Rattle.rounds.specs.Round.{rowIn, settled, filled}
-use Rattle.scan.proofs.Looking.{label-in}
+use Rattle.paper.proofs.Steps.{label-read, label-out}
+use Rattle.rounds.specs.Round.{settled, filled}
 use Rattle.paper.proofs.Earliest.{length-row, label-zero, row-start}
 
 module _ (T : Tables) (q : Question) where
@@ -114,7 +113,7 @@ module _ (T : Tables) (q : Question) (d₀ : List ℕ) (few : T .stops ≤ 256) 
         getD-part d (k * 256) (k * 256 + T .stops) i 0 (omega arith)
         ∙ rows .cell k i h (omega arith)
         ∙ cell-row T q k k i (omega arith)
-        ∙ sym (label-in (rowOf T q k) i (omega (arith, length-row T q k))))
+        ∙ label-read (rowOf T q k) i (omega (arith, length-row T q k)))
 
     module _ {d′ : List ℕ} (h : k < 8) (e : d′ ≡ written d (k * 256 + 256) (label (nextRow T (rowIn d k (T .stops)))) (T .stops)) where
       next : ℕ → ℕ

@@ -14,13 +14,12 @@ use Rattle.laws.proofs.Below.{minBelow-mark, minBelow-same, anyBelow-same}
 use Rattle.laws.proofs.Lists.{length-part-of, getD-part, written-same, length-lowerBy, getD-lowerBy}
 use Rattle.paper.specs.Rules.{Fit}
 use Rattle.paper.specs.Timetable.{Tables, routeOf, walkFrom, walkTo, walkSeconds}
-use Rattle.paper.specs.Rows.{label, rideOn, rideTo, ridesFrom, walkIn, nextRow}
+use Rattle.paper.specs.Rows.{label, rowIn, rideOn, rideTo, ridesFrom, walkIn, nextRow}
 use Rattle.paper.specs.Work.{roundCost, improves}
-use Rattle.paper.proofs.Steps.{label-rides, label-next}
+use Rattle.paper.proofs.Steps.{label-read, label-rides, label-next}
 use Rattle.scan.specs.Look.{routesIn, rideBelow, looksBelow, Ridden}
 use Rattle.scan.specs.Walk.{walkBelow, Walked}
-use Rattle.rounds.specs.Round.{rowIn, brought, bettered, RowWritten, RoundAsked, RoundDone}
-use Rattle.scan.proofs.Looking.{label-in}
+use Rattle.rounds.specs.Round.{brought, bettered, RowWritten, RoundAsked, RoundDone}
 use Rattle.scan.proofs.Fitting.{same-route, rideable}
 use Rattle.scan.proofs.Riding.{looks-le}
 
@@ -65,7 +64,7 @@ module _ (T : Tables) (labels₀ : List ℕ) (k : ℕ) (asked : RoundAsked T lab
   row-label : (s : ℕ) → s < T .stops → getD labels₀ (k * 256 + s) 0 ≡ label row s
   row-label s h =
       sym (getD-part labels₀ (k * 256) (k * 256 + T .stops) s 0 (omega arith))
-      ∙ label-in (rowIn labels₀ k (T .stops)) s (rw row-long h)
+      ∙ sym (label-read (rowIn labels₀ k (T .stops)) s (rw row-long h))
 
   rides-same : (s : ℕ) → rideBelow (routesIn (T .t1) (T .t2) (T .t3) (T .t4)) (T .routes) row s ≡ rideTo T row s
   unfolding rideBelow rideTo
@@ -93,7 +92,7 @@ module _ (T : Tables) (labels₀ : List ℕ) (k : ℕ) (asked : RoundAsked T lab
         ∙ sym (label-rides T row s h)
 
     reach-label : (s : ℕ) → s < T .stops → label reach s ≡ label (ridesFrom T row) s
-    reach-label s h = sym (label-in reach s (omega (arith, reach-size ri, stop-few s h))) ∙ reach-at s h
+    reach-label s h = label-read reach s (omega (arith, reach-size ri, stop-few s h)) ∙ reach-at s h
 
     walks-same : (s : ℕ) → walkBelow (T .t5) (T .walks) reach s ≡ walkIn T (ridesFrom T row) s
     unfolding walkBelow walkIn

@@ -12,12 +12,12 @@ use Rattle.laws.specs.Below.{sumBelow}
 use Rattle.laws.proofs.Tests.{by-test, by-lt, both-ways}
 use Rattle.laws.proofs.Below.{sumBelow-next}
 use Rattle.paper.specs.Timetable.{Tables}
-use Rattle.paper.specs.Rows.{rowOf}
+use Rattle.paper.specs.Rows.{rowIn, rowOf}
 use Rattle.paper.specs.Work.{roundCost, improves, roundsRun, workTo, workOf}
 use Rattle.paper.specs.Reply.{questionBroken}
 use Rattle.paper.specs.declared.Question.{Question}
 use Rattle.paper.proofs.Rounds.{stopped, work-mono, passing-is, rounds-reach, rounds-end, rounds-all}
-use Rattle.rounds.specs.Round.{rowIn, RoundAsked, RoundDone, Settling, settled, filled}
+use Rattle.rounds.specs.Round.{RoundAsked, RoundDone, Settling, settled, filled}
 use Rattle.rounds.specs.Run.{Asked, roundsOf, labelsLeft, Ran}
 use Rattle.rounds.specs.declared.Rounds.{Rounds}
 use Rattle.scan.proofs.Riding.{sum-most}

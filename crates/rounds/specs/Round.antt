@@ -6,15 +6,11 @@ use Prim.Native.Nat.{ℕ, _+_, _*_, _-_, _%_, _≤_, _<_, min}
 use lib.Dec.{ltb}
 use lib.ListN.{length, getD}
 use Rattle.laws.specs.Below.{mark, anyBelow}
-use Rattle.laws.specs.Lists.{part, written}
+use Rattle.laws.specs.Lists.{written}
 use Rattle.paper.specs.Timetable.{Tables}
 use Rattle.paper.specs.Rules.{Fit}
-use Rattle.paper.specs.Rows.{label, nextRow}
+use Rattle.paper.specs.Rows.{label, rowIn, nextRow}
 use Rattle.paper.specs.Work.{roundCost, improves}
-
--- "nine rows of 256": row k's labels of so many stops
-abbrev pub rowIn : List ℕ → ℕ → ℕ → List ℕ
-rowIn labels k stops = part (k * 256) (k * 256 + stops) labels
 
 -- there is a row after row k
 pub record Follows (labels k stops reach next : ℕ) : Type 0 where

@@ -9,8 +9,8 @@ use crate::rows::fill;
 use crate::rows::settle;
 use crate::rows::write_row;
 use paper::Heads;
+use paper::MARK;
 use paper::Question;
-use scan::MARK;
 use scan::routes::ride;
 use scan::walks::walk;
 

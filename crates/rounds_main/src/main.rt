@@ -6,6 +6,7 @@ ghost use Rattle.laws.specs.Lists.{over};
 ghost use Rattle.paper.specs.Timetable.{lent};
 ghost use Rattle.rounds_main.specs.Network.{Askable, Rowed};
 use paper::Heads;
+use paper::MARK;
 use paper::Question;
 use rounds::Rounds;
 
@@ -23,7 +24,7 @@ fn put(table: &mut [u32], values: &[u32])
 
 // A label, or `-` for the mark.
 fn print_label(label: u32) {
-    if label == 4294967295 {
+    if label == MARK {
         io::write_all(1, b" -");
     } else {
         io::write_all(1, b" ");

@@ -1,6 +1,6 @@
 -- What a sound timetable in tables of full size gives a ride and a walk.
 use mathlib.Core.Path.{_≡_, refl}
-use Prim.Native.Nat.{ℕ, _*_, _≤_, _<_}
+use Prim.Native.Nat.{ℕ, _*_, _<_}
 use native.Mathlib.Omega.{arith}
 use Rattle.laws.proofs.Lists.{length-part-of}
 use Rattle.paper.specs.Timetable.{Tables, nOf, mOf, firstEvent, routeOf}

@@ -1,8 +1,8 @@
 -- What `board` and `look` keep, turn by turn.
 use mathlib.Core.Path.{_≡_, refl, sym, ap, _∙_}
 use mathlib.Core.Bool.{true, false, cond}
-use mathlib.Core.List.{List, [], _∷_}
-use Prim.Native.Nat.{ℕ, zero, suc, _+_, _-_, _*_, _≤_, _<_}
+use mathlib.Core.List.{List}
+use Prim.Native.Nat.{ℕ, suc, _+_, _-_, _*_, _≤_, _<_}
 use native.Mathlib.Nat.{mul-comm, mul-le-mul-right}
 use native.Mathlib.Numerals.{add-one}
 use native.Mathlib.Omega.{arith}
@@ -12,13 +12,14 @@ use lib.Dec.{eqb, ltb}
 use borrow.Author.Tests.{eq-eqb, ne-eqb, le-leb, lt-leb, lt-ltb, le-ltb}
 use Rattle.laws.specs.Below.{mark, only, firstBelow, sumBelow}
 use Rattle.laws.specs.Lists.{part, lowerBy, lowerAt}
-use Rattle.laws.proofs.Tests.{by-lt, climb}
+use Rattle.laws.proofs.Tests.{by-test, by-lt, climb}
 use Rattle.laws.proofs.Below.{firstBelow-only, sumBelow-next}
 use Rattle.laws.proofs.Lists.{length-part-of, lowerBy-none, lowerBy-same, lowerBy-more, length-lowerBy}
 use Rattle.extents.specs.declared.Extent.{Extent}
 use Rattle.paper.specs.Timetable.{Route, stopAt, arriveAt}
 use Rattle.paper.specs.Rows.{label, boards, rideOn}
 use Rattle.paper.specs.Work.{firstCaught, caught, costAt, lookCost}
+use Rattle.paper.proofs.Steps.{label-read}
 use Rattle.paper.proofs.Scan.{Orderly, scanAt, caught-le}
 use Rattle.paper.proofs.WorkLimit.{looks-le}
 use Rattle.scan.specs.Look.{catches, Boardable, Boarded, routeFrom, Scannable, Looked, routeAt, Standing}
@@ -88,6 +89,15 @@ module _ (departures : List ℕ) (n i c at : ℕ) where
           work-is = rw (off, le-ltb 0 k none) (omega (arith, b .counted));
         }
 
+  -- each trip is compared once at most, and one more
+  pub board-few : {trip work : ℕ} → Boarded departures n i c at trip work → work ≤ c + 1
+  board-few {trip} {work} b =
+      by-test (eqb at mark)
+      (λ t. let z : work ≡ 0 = rw t at (b .work-is) in omega arith)
+      (λ f. by-test (ltb 0 trip)
+      (λ t. let z : work ≡ c - trip + 1 = rw (f, t) at (b .work-is) in omega arith)
+      (λ t. let z : work ≡ c - trip + 0 = rw (f, t) at (b .work-is) in omega arith))
+
 -- ---- look
 
 -- the loop's invariant: c is caught before position i, work is what the positions before i cost, and `reach` has what was left up to position i
@@ -96,17 +106,6 @@ pub record Scanned (R : Route) (row reach₀ reach : List ℕ) (c work i : ℕ) 
   pub trip-is : c ≡ caught R row i
   pub work-is : work ≡ sumBelow i (costAt R row)
   pub reach-is : reach ≡ lowerBy (scanTo R row (i + 1)) reach₀
-
--- within the list the default does not matter
-pub getD-any : (xs : List ℕ) (i a b : ℕ) → i < length xs → getD xs i a ≡ getD xs i b
-getD-any [] i a b h = absurd (omega arith)
-getD-any (x ∷ xs) zero a b h = refl
-getD-any (x ∷ xs) (suc i) a b h = getD-any xs i a b (omega arith)
-
--- within the row a label is the element
-pub label-in : (row : List ℕ) (s : ℕ) → s < length row → getD row s 0 ≡ label row s
-unfolding label
-label-in row s h = getD-any row s 0 mark h
 
 module _ (R : Route) (row reach₀ : List ℕ) where
   pub scanned-start : 1 ≤ R .n → ((s : ℕ) → s < length reach₀ → getD reach₀ s 0 ≤ mark) → Scanned R row reach₀ reach₀ (R .m) 0 0
@@ -135,18 +134,23 @@ module _ (R : Route) (row reach₀ : List ℕ) where
           arrive< = λ j i l m. omega (arith, pre .arrive< j i l m);
         }
 
-    pub boardable : Boardable (R .departures) (R .n) i c
-    boardable =
+    -- a trip is found in any table of the route's events that rises at this position
+    pub boardable : {xs : List ℕ} → length xs ≡ R .n * R .m → ((j : ℕ) → j + 1 < R .m → getD xs (j * R .n + i) 0 ≤ getD xs ((j + 1) * R .n + i) 0) → Boardable xs (R .n) i c
+    boardable size rise =
         record {
           inside = sc .below;
           few = omega (arith, trip-le, pre .few-trips);
-          size = omega (arith, mul-le-mul-right (R .n) trip-le, mul-comm (R .n) (R .m), pre .departures-size);
-          rises = λ j h. pre .departures-rise j i (omega (arith, trip-le)) (sc .below);
+          size = omega (arith, mul-le-mul-right (R .n) trip-le, mul-comm (R .n) (R .m));
+          rises = λ j h. rise j (omega (arith, trip-le));
         }
+
+    -- whichever table was compared, the count is small
+    pub work-small : {xs : List ℕ} {at c′ w : ℕ} → Boarded xs (R .n) i c at c′ w → work + w ≤ i + R .m + (R .m + 1)
+    work-small b = omega (arith, board-few _ _ _ _ _ b, trip-le, looks-le R row i, sc .work-is)
 
     module _ {c′ w : ℕ} (b : Boarded (R .departures) (R .n) i c (getD row (stopAt R i) 0) c′ w) where
       there : getD row (stopAt R i) 0 ≡ label row (stopAt R i)
-      there = label-in row (stopAt R i) (pre .in-row i (sc .below))
+      there = sym (label-read row (stopAt R i) (pre .in-row i (sc .below)))
 
       next-trip : c′ ≡ caught R row (i + 1)
       unfolding firstCaught boards
@@ -164,9 +168,6 @@ module _ (R : Route) (row reach₀ : List ℕ) where
 
       next-work : work + w ≡ sumBelow (i + 1) (costAt R row)
       next-work = omega (arith, cost-is, sumBelow-next i (costAt R row), sc .work-is)
-
-      pub next-work-le : work + w ≤ i + 1 + R .m
-      next-work-le = omega (arith, next-work, looks-le R row (i + 1))
 
       leaves : scanAt R row (i + 1) ≡ only (ltb c′ (R .m)) (arriveAt R c′ (i + 1))
       unfolding scanAt

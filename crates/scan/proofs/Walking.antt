@@ -12,8 +12,8 @@ use Rattle.laws.specs.Lists.{lowerBy}
 use Rattle.laws.proofs.Below.{only-true, only-false, minBelow-mark, minBelow-next}
 use Rattle.laws.proofs.Lists.{length-lowerBy, lowerBy-none, lowerBy-more}
 use Rattle.paper.specs.Rows.{label}
+use Rattle.paper.proofs.Steps.{label-read}
 use Rattle.scan.specs.Walk.{walkBelow, WalkStanding, Walkable, walkedOn, Walked}
-use Rattle.scan.proofs.Looking.{label-in}
 
 pub record Walking (t5 : List ℕ) (count : ℕ) (reach next₀ next : List ℕ) (work w : ℕ) : Type 0 where
   pub below : w ≤ count
@@ -48,7 +48,7 @@ module _ (t5 : List ℕ) (count : ℕ) (reach next₀ : List ℕ) where
     at-to h =
         let f : ℕ → ℕ = λ w. only (eqb (getD t5 (w * 3 + 1) 0) (to h)) (label reach (getD t5 (w * 3) 0) + getD t5 (w * 3 + 2) 0) in
         let e = only-true (eqb (to h) (to h)) (label reach (from h) + getD t5 (w * 3 + 2) 0) (eq-eqb (to h) (to h) refl) in
-        let l = label-in reach (from h) (pre .standing w h .from<) in
+        let l = label-read reach (from h) (pre .standing w h .from<) in
         omega (arith, minBelow-next w f, minBelow-mark w f, e, l)
 
     elsewhere : (h : w < count) (s : ℕ) → s ≢ to h → walkBelow t5 (w + 1) reach s ≡ walkBelow t5 w reach s

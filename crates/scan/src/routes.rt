@@ -6,10 +6,15 @@ ghost use lib.Dec.{ltb};
 ghost use Rattle.laws.specs.Below.{only};
 ghost use Rattle.laws.specs.Lists.{lowerAt};
 ghost use Rattle.scan.specs.Look.{Boardable, Boarded, Landing, routeFrom, Scannable, Looked, routeAt, Standing, routesIn, Rideable, Ridden};
-use crate::Caught;
-use crate::MARK;
 use extents::Extent;
 use extents::extent_of;
+use paper::MARK;
+
+// The trip that is caught after a position, and the departures compared there.
+struct Caught {
+    trip: usize,
+    work: u32,
+}
 
 // Goes down from trip c while the trip before it departs from position i not before `at`, and counts each departure compared.
 fn board(departures: &[u32], n: usize, i: usize, c: usize, at: u32) -> Caught

@@ -7,19 +7,15 @@ use native.Mathlib.Numerals.{sub-one}
 use native.Mathlib.Omega.{arith}
 use borrow.Author.Tests.{eq-eqb, ne-eqb, lt-ltb, le-ltb}
 use lib.Dec.{eqb, leb, ltb}
-use lib.ListN.{length, getD}
+use lib.ListN.{getD}
 use Rattle.laws.specs.Below.{mark}
-use Rattle.laws.proofs.Runs.{getD-default}
 use Rattle.paper.specs.Rows.{label}
 use Rattle.paper.specs.declared.After.the-variants.{Stays, WalksTo}
+use Rattle.paper.proofs.Steps.{label-read}
 use Rattle.extents.specs.declared.Extent.{Extent}
 use Rattle.steps.specs.declared.Way.{Way}
 use Rattle.steps.specs.declared.Way.the-variants.{Open, Shut}
 use Rattle.steps.specs.Search.{stopIn, timeIn, endsIn, Boarding, boardsIn, wayOf, onFoot}
-
-pub label-read : (row : List ℕ) (s : ℕ) → s < length row → label row s ≡ getD row s 0
-unfolding label
-label-read row s l = getD-default row s mark 0 l
 
 module _ (t2 t4 row : List ℕ) (x : Extent) (j i : ℕ) (in4 : Boarding t2 t4 row x j i) where
   pub boards-unreached : getD row (stopIn t2 x i) 0 ≡ 4294967295 → false ≡ boardsIn t2 t4 row x j i

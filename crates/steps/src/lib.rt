@@ -1,6 +1,6 @@
 // The search for the first last step: over ways in, routes, trips, leaving and boarding positions, in the tie rule's order.
 ghost use mathlib.Core.Path.{_≡_};
-ghost use Prim.Native.Nat.{_+_, _*_, _≤_, _<_};
+ghost use Prim.Native.Nat.{_+_, _≤_};
 ghost use lib.ListN.{length};
 ghost use Rattle.paper.specs.Timetable.{lent};
 ghost use Rattle.paper.specs.Tie.{firstStep};
@@ -10,9 +10,7 @@ use extents::extent_of;
 use paper::After;
 use paper::Heads;
 use paper::Leg;
-
-// Unreached, or no walk.
-pub const MARK: u32 = 4294967295;
+use paper::MARK;
 
 // What the search finds.
 pub enum Found {
@@ -21,7 +19,7 @@ pub enum Found {
 }
 
 // A way in to a stop: where a ride has to end, the seconds from there, and what comes after it.
-pub enum Way {
+enum Way {
     Open(u32, u32, After),
     Shut,
 }

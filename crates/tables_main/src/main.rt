@@ -1,4 +1,5 @@
 // The edges of 01's rules, each checked once and printed on a line: `done LIMIT`, or the refusal's number and place.
+ghost use lib.ListN.{length};
 ghost use Rattle.tables_main.specs.Lengths.{Lengths};
 use paper::Checked;
 use paper::Heads;
@@ -63,46 +64,73 @@ fn put_walk(walks: &mut [u32], w: u32, from: u32, to: u32, seconds: u32) {
     put(walks, at + 2, seconds);
 }
 
+// Table 1 with one route, and a change if one is wanted there.
+fn routes_of(n: u32, m: u32, wanted: bool, at: usize, value: u32) -> [u32; 256] {
+    let mut routes: [u32; 256] = [0; 256];
+    put_route(&mut routes, 0, n, m, 0, 0);
+    put_if(wanted, &mut routes, at, value);
+    routes
+}
+
+// Table 2 with stop 0 only.
+fn positions_of(wanted: bool, at: usize, value: u32) -> [u32; 2048] {
+    let mut positions: [u32; 2048] = [0; 2048];
+    put_if(wanted, &mut positions, at, value);
+    positions
+}
+
+// Table 3 or 4.
+fn times_of(n: u32, wanted: bool, at: usize, value: u32) -> [u32; 2048] {
+    let mut times: [u32; 2048] = [0; 2048];
+    fill_times(&mut times, 0, n);
+    put_if(wanted, &mut times, at, value);
+    times
+}
+
+// Table 5 with one walk from 0 to 1.
+fn walks_of(wanted: bool, at: usize, value: u32) -> [u32; 1536] {
+    let mut walks: [u32; 1536] = [0; 1536];
+    put_walk(&mut walks, 0, 0, 1, 10);
+    put_if(wanted, &mut walks, at, value);
+    walks
+}
+
 // One route that halts at stop 0 only, one walk from 0 to 1, and a change.
 fn one_route(heads: Heads, n: u32, m: u32, change: Change) {
-    let mut routes: [u32; 256] = [0; 256];
-    let mut positions: [u32; 2048] = [0; 2048];
-    let mut arrivals: [u32; 2048] = [0; 2048];
-    let mut departures: [u32; 2048] = [0; 2048];
-    let mut walks: [u32; 1536] = [0; 1536];
-    put_route(&mut routes, 0, n, m, 0, 0);
-    fill_times(&mut arrivals, 0, n);
-    fill_times(&mut departures, 0, n);
-    put_walk(&mut walks, 0, 0, 1, 10);
     let table = change.table;
     let at = change.at;
     let value = change.value;
-    put_if(table == 1, &mut routes, at, value);
-    put_if(table == 2, &mut positions, at, value);
-    put_if((table == 3) | (table == 0), &mut arrivals, at, value);
-    put_if((table == 4) | (table == 0), &mut departures, at, value);
-    put_if(table == 5, &mut walks, at, value);
+    let routes = routes_of(n, m, table == 1, at, value);
+    let positions = positions_of(table == 2, at, value);
+    let arrivals = times_of(n, (table == 3) | (table == 0), at, value);
+    let departures = times_of(n, (table == 4) | (table == 0), at, value);
+    let walks = walks_of(table == 5, at, value);
     print_checked(timetable::check(heads, &routes, &positions, &arrivals, &departures, &walks));
+}
+
+// So many routes that halt at stop 0 only, with the same times of arrival and departure.
+fn check_routes(count: u32, routes: &[u32], times: &[u32]) {
+    let positions: [u32; 2048] = [0; 2048];
+    let walks: [u32; 1536] = [0; 1536];
+    print_checked(timetable::check(
+        heads_of(1, count, 0),
+        routes,
+        &positions,
+        times,
+        times,
+        &walks,
+    ));
 }
 
 // A route of 64 positions and 31 trips, and one after it.
 fn two_routes(n: u32, m: u32) {
     let mut routes: [u32; 256] = [0; 256];
-    let positions: [u32; 2048] = [0; 2048];
     let mut times: [u32; 2048] = [0; 2048];
-    let walks: [u32; 1536] = [0; 1536];
     put_route(&mut routes, 0, 64, 31, 0, 0);
     put_route(&mut routes, 1, n, m, 64, 1984);
     fill_times(&mut times, 0, 64);
     fill_times(&mut times, 1984, n);
-    print_checked(timetable::check(
-        heads_of(1, 2, 0),
-        &routes,
-        &positions,
-        &times,
-        &times,
-        &walks,
-    ));
+    check_routes(2, &routes, &times);
 }
 
 // 64 routes of two positions and one trip.
@@ -115,23 +143,14 @@ fn fill_routes(routes: &mut [u32]) {
 // So many of these routes.
 fn many_routes(count: u32) {
     let mut routes: [u32; 256] = [0; 256];
-    let positions: [u32; 2048] = [0; 2048];
     let mut times: [u32; 2048] = [0; 2048];
-    let walks: [u32; 1536] = [0; 1536];
     fill_routes(&mut routes);
     fill_times(&mut times, 0, 2);
-    print_checked(timetable::check(
-        heads_of(1, count, 0),
-        &routes,
-        &positions,
-        &times,
-        &times,
-        &walks,
-    ));
+    check_routes(count, &routes, &times);
 }
 
-// The first so many numbers of tables, with no route and no walk.
-fn parts(
+// The first so many numbers of these tables, with no route and no walk.
+fn check_parts(
     routes: &[u32],
     times: &[u32],
     walks: &[u32],
@@ -141,7 +160,7 @@ fn parts(
     d: usize,
     e: usize,
 )
-    requires { ⌜ Lengths (now routes) (now times) (now walks) a b c d e ⌝ }
+    requires { ⌜ Lengths (length (now routes)) (length (now times)) (length (now walks)) a b c d e ⌝ }
 {
     print_checked(timetable::check(
         heads_of(1, 0, 0),
@@ -153,22 +172,37 @@ fn parts(
     ));
 }
 
-// Walk 0 to 1 of 10 s, walk 0 to 2, and 1 to 2 of 10 s as walk `last`, of so many.
-fn three_walks(seconds: u32, last: u32, count: u32) {
+// The first so many of tables of full size.
+fn parts(a: usize, b: usize, c: usize, d: usize, e: usize)
+    requires { ⌜ Lengths 256 2048 1536 a b c d e ⌝ }
+{
     let routes: [u32; 256] = [0; 256];
     let times: [u32; 2048] = [0; 2048];
-    let mut walks: [u32; 1536] = [0; 1536];
-    put_walk(&mut walks, 0, 0, 1, 10);
-    put_walk(&mut walks, 1, 0, 2, seconds);
-    put_walk(&mut walks, last, 1, 2, 10);
+    let walks: [u32; 1536] = [0; 1536];
+    check_parts(&routes, &times, &walks, a, b, c, d, e);
+}
+
+// So many walks between three stops, with no route.
+fn check_walks(count: u32, walks: &[u32]) {
+    let routes: [u32; 256] = [0; 256];
+    let times: [u32; 2048] = [0; 2048];
     print_checked(timetable::check(
         heads_of(3, 0, count),
         &routes,
         &times,
         &times,
         &times,
-        &walks,
+        walks,
     ));
+}
+
+// Walk 0 to 1 of 10 s, walk 0 to 2, and 1 to 2 of 10 s as walk `last`, of so many.
+fn three_walks(seconds: u32, last: u32, count: u32) {
+    let mut walks: [u32; 1536] = [0; 1536];
+    put_walk(&mut walks, 0, 0, 1, 10);
+    put_walk(&mut walks, 1, 0, 2, seconds);
+    put_walk(&mut walks, last, 1, 2, 10);
+    check_walks(count, &walks);
 }
 
 fn heads_of(stops: u32, routes: u32, walks: u32) -> Heads {
@@ -242,15 +276,12 @@ fn head_counts() {
 }
 
 fn one_short() {
-    let routes: [u32; 256] = [0; 256];
-    let times: [u32; 2048] = [0; 2048];
-    let walks: [u32; 1536] = [0; 1536];
-    parts(&routes, &times, &walks, 256, 2048, 2048, 2048, 1536);
-    parts(&routes, &times, &walks, 255, 2048, 2048, 2048, 1536);
-    parts(&routes, &times, &walks, 256, 2047, 2048, 2048, 1536);
-    parts(&routes, &times, &walks, 256, 2048, 2047, 2048, 1536);
-    parts(&routes, &times, &walks, 256, 2048, 2048, 2047, 1536);
-    parts(&routes, &times, &walks, 256, 2048, 2048, 2048, 1535);
+    parts(256, 2048, 2048, 2048, 1536);
+    parts(255, 2048, 2048, 2048, 1536);
+    parts(256, 2047, 2048, 2048, 1536);
+    parts(256, 2048, 2047, 2048, 1536);
+    parts(256, 2048, 2048, 2047, 1536);
+    parts(256, 2048, 2048, 2048, 1535);
 }
 
 // The largest number in each field of tables 1 to 5.

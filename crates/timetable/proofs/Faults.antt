@@ -22,9 +22,11 @@ use Rattle.paper.proofs.Places.{HeadsRight, heads-right, walk-right}
 use Rattle.paper.proofs.Checks.{CountsUnbroken, counts-unbroken, routes-right, counts-events, walks-right, walks-rising}
 use Rattle.places.specs.declared.Place.{Place}
 use Rattle.places.specs.Place.{placeOf}
-use Rattle.footpaths.specs.Walks.{ofWalks, WalksLent, Walked}
+use Rattle.footpaths.specs.Walks.{ofWalks, WalksLent}
+use Rattle.closure.specs.Closed.{Walked}
 use Rattle.places.proofs.Lowest.{nowhere-none, at-some}
-use Rattle.trips.specs.Places.{ofRoutes, ofStops, ofTimes, lowestEvent}
+use Rattle.stops.specs.Stops.{ofStops}
+use Rattle.trips.specs.Places.{ofRoutes, ofTimes, lowestEvent}
 use Rattle.trips.specs.Needed.{Laid, TimesLaid}
 use Rattle.timetable.specs.declared.Fault.{Fault}
 use Rattle.timetable.specs.Places.{faultAs, fiveLengths, shortPlace}
@@ -82,13 +84,13 @@ module _ (T : Tables) where
 
   -- ---- 7 to 11
 
-  abbrev stop-place : Option ℕ
+  abbrev pub stop-place : Option ℕ
   stop-place = lowestOf (positionsTo T (T .routes)) (stopBroken T)
 
-  abbrev walk-place : Option ℕ
+  abbrev pub walk-place : Option ℕ
   walk-place = lowestOf (T .walks) (walkBroken T)
 
-  abbrev open-place : Option ℕ
+  abbrev pub open-place : Option ℕ
   open-place = lowestOf (T .walks) (opens T)
 
   abbrev Whole : Fault

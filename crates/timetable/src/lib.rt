@@ -12,13 +12,13 @@ mod counts;
 use crate::counts::count_fault;
 use crate::counts::limit_of;
 use crate::counts::totals_of;
-use footpaths::lowest_open;
+use closure::lowest_open;
 use footpaths::lowest_walk;
 use paper::Checked;
 use paper::Heads;
 use places::Place;
+use stops::lowest_stop;
 use trips::lowest_event;
-use trips::lowest_stop;
 
 // What the first broken rule refuses.
 pub enum Fault {

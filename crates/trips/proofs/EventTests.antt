@@ -4,40 +4,27 @@ use mathlib.Core.Bool.{Bool, true, false, not, _&&_, _||_}
 use mathlib.Core.List.{List}
 use mathlib.Core.Option.{Option, some}
 use Prim.Native.Nat.{ℕ, _+_, _*_, _-_, _≤_, _<_}
-use native.Mathlib.Nat.{add-mul}
 use native.Mathlib.Omega.{arith}
-use lib.Dec.{eqb, leb, ltb}
-use lib.ListN.{length, getD}
-use borrow.Author.Tests.{lt-ltb, le-ltb}
+use lib.Dec.{eqb, ltb}
+use lib.ListN.{getD}
+use borrow.Author.Tests.{lt-ltb, le-ltb, not-true}
 use Rattle.laws.specs.Below.{given, firstFound}
 use Rattle.laws.proofs.Tests.{cell-in}
 use Rattle.laws.proofs.Checking.{not-ltb, not-leb}
-use Rattle.laws.proofs.Found.{Nothing, nothing-more, nothing-end, firstFound-is, given-true, given-false}
-use Rattle.paper.specs.Timetable.{Tables, Route, stopOf, arriveAt, departAt}
-use Rattle.paper.specs.Rules.{stopBroken, timeBroken, overtakes}
+use Rattle.laws.proofs.Found.{Nothing, nothing-more, nothing-end, firstFound-is, given-true, given-false, firstFound-none}
+use Rattle.paper.specs.Timetable.{Route, arriveAt, departAt}
+use Rattle.paper.specs.Rules.{timeBroken, overtakes}
 use Rattle.places.specs.declared.Place.{Place}
 use Rattle.places.specs.Place.{placeOf}
-use Rattle.trips.specs.Places.{ahead, eventBroken, brokenIn}
-use Rattle.trips.specs.Needed.{InRoute, AtEvent}
+use Rattle.route_times.specs.Route.{timesOf, ahead, eventBroken, InRoute}
+use Rattle.route_times.specs.Folds.{BrokenTold}
+use Rattle.route_times.proofs.Folds.{next-trip, Stands}
+use Rattle.trips.specs.Places.{ownBroken, brokenIn}
+use Rattle.trips.specs.Needed.{AtEvent}
 
--- n further on stands the next trip's event
-pub next-trip : (n j i : ℕ) → j * n + i + n ≡ (j + 1) * n + i
-next-trip n j i = omega (arith, add-mul j 1 n)
-
--- where trip j's event at position i stands
-pub record Cell (n : ℕ) (arrivals departures : List ℕ) (j i : ℕ) : Type 0 where
-  pub small : j * n + i < 2048
-  pub in-arrivals : j * n + i < length arrivals
-  pub in-departures : j * n + i < length departures
-
--- where the next trip's event stands, at the same position as event e
-pub record NextCell (n : ℕ) (arrivals departures : List ℕ) (e : ℕ) : Type 0 where
-  pub small : e + n < 2048
-  pub in-arrivals : e + n < length arrivals
-  pub in-departures : e + n < length departures
-
+-- where an event stands in the tables
 module _ (n m : ℕ) (arrivals departures : List ℕ) where
-  pub cell : (j i : ℕ) → InRoute n m arrivals departures → j < m → i < n → Cell n arrivals departures j i
+  pub cell : (j i : ℕ) → InRoute n m arrivals departures → j < m → i < n → Stands arrivals departures (j * n + i)
   cell j i h lj li =
       let x : j * n + i < n * m = cell-in n m j i lj li in
       record {
@@ -46,45 +33,39 @@ module _ (n m : ℕ) (arrivals departures : List ℕ) where
         in-departures = omega (arith, h .departures≥);
       }
 
-  pub at-event : (j i : ℕ) → AtEvent 0 n m arrivals departures j i → Cell n arrivals departures j i
+  pub at-event : (j i : ℕ) → AtEvent 0 n m arrivals departures j i → Stands arrivals departures (j * n + i)
   at-event j i h = let t = h .trip in cell j i (h .route) (omega arith) (h .position)
 
-  pub at-next : (j i : ℕ) → AtEvent 0 n m arrivals departures j i → i + 1 < n → Cell n arrivals departures j (i + 1)
+  pub at-next : (j i : ℕ) → AtEvent 0 n m arrivals departures j i → i + 1 < n → Stands arrivals departures (j * n + (i + 1))
   at-next j i h l = let t = h .trip in cell j (i + 1) (h .route) (omega arith) l
 
-  pub at-pair : (j i : ℕ) → AtEvent 1 n m arrivals departures j i → NextCell n arrivals departures (j * n + i)
+  pub at-pair : (j i : ℕ) → AtEvent 1 n m arrivals departures j i → Stands arrivals departures (j * n + i + n)
   at-pair j i h =
       let x = cell (j + 1) i (h .route) (h .trip) (h .position) in
       let z = next-trip n j i in
       record { small = omega (arith, x .small); in-arrivals = omega (arith, x .in-arrivals); in-departures = omega (arith, x .in-departures) }
 
--- ---- 7 and 8, as the code tests them
-
--- the number at position p is not a stop's
-pub stop-broken : (T : Tables) (p : ℕ) → T .stops ≤ stopOf T p → stopBroken T p ≡ true
-unfolding stopBroken
-stop-broken T p h = rw (le-ltb (stopOf T p) (T .stops) h)
+-- ---- 8, as the code tests it
 
 module _ (R : Route) (j i : ℕ) where
-  abbrev first-tests : Bool
-  first-tests =
-      leb 172800 (arriveAt R j i) || leb 172800 (departAt R j i) || ltb (departAt R j i) (arriveAt R j i)
-      || (eqb i 0 || eqb (i + 1) (R .n)) && not (eqb (arriveAt R j i) (departAt R j i))
+  abbrev own : Bool
+  own = ownBroken (eqb i 0 || eqb (i + 1) (R .n)) (arriveAt R j i) (departAt R j i)
 
-  time-tests : timeBroken R j i ≡ (first-tests || ltb (i + 1) (R .n) && ltb (arriveAt R j (i + 1)) (departAt R j i))
-  unfolding timeBroken
+  time-tests : timeBroken R j i ≡ (own || ltb (i + 1) (R .n) && ltb (arriveAt R j (i + 1)) (departAt R j i))
+  unfolding timeBroken ownBroken
   time-tests = simp (not-ltb, not-leb)
 
-  pub time-first : first-tests ≡ true → true ≡ timeBroken R j i
-  time-first t = rw (time-tests, t)
+  module _ {b : Bool} (is : b ≡ own) where
+    pub time-first : b ≡ true → true ≡ timeBroken R j i
+    time-first t = rw (time-tests, ← is, t)
 
-  pub time-next : first-tests ≡ false → i + 1 < R .n → ltb (getD (R .arrivals) (j * R .n + i + 1) 0) (departAt R j i) ≡ timeBroken R j i
-  time-next f l =
-      let z : j * R .n + i + 1 ≡ j * R .n + (i + 1) = omega arith in
-      rw (time-tests, f, lt-ltb (i + 1) (R .n) l, z)
+    pub time-next : b ≡ false → i + 1 < R .n → ltb (getD (R .arrivals) (j * R .n + i + 1) 0) (departAt R j i) ≡ timeBroken R j i
+    time-next f l =
+        let z : j * R .n + i + 1 ≡ j * R .n + (i + 1) = omega arith in
+        rw (time-tests, ← is, f, lt-ltb (i + 1) (R .n) l, z)
 
-  pub time-last : first-tests ≡ false → R .n ≤ i + 1 → false ≡ timeBroken R j i
-  time-last f l = rw (time-tests, f, le-ltb (i + 1) (R .n) l)
+    pub time-last : b ≡ false → R .n ≤ i + 1 → false ≡ timeBroken R j i
+    time-last f l = rw (time-tests, ← is, f, le-ltb (i + 1) (R .n) l)
 
 -- ---- 9, as the code tests it
 
@@ -106,7 +87,7 @@ module _ (b : Bool) (n m : ℕ) (arrivals departures : List ℕ) (j i : ℕ) whe
   pub at-sought : {s : Bool} → AtEvent (ahead b) n m arrivals departures j i → b ≡ s → AtEvent (ahead s) n m arrivals departures j i
   at-sought h e = rw e at h
 
-  pub place-of : AtEvent (ahead b) n m arrivals departures j i → Cell n arrivals departures (j + ahead b) i
+  pub place-of : AtEvent (ahead b) n m arrivals departures j i → Stands arrivals departures ((j + ahead b) * n + i)
   place-of h = cell n m arrivals departures (j + ahead b) i (h .route) (h .trip) (h .position)
 
 module _ (b : Bool) (R : Route) (j i : ℕ) {r : Bool} where
@@ -143,3 +124,11 @@ module _ (b : Bool) (R : Route) where
   pub event-none : (j : ℕ) → R .m - ahead b ≤ j → j ≤ R .m - ahead b → Nothing tripAt j → Place.Nowhere ≡ placeOf (brokenIn b R)
   unfolding brokenIn
   event-none j l u h = rw (nothing-end tripAt (R .m - ahead b) j (omega arith) h)
+
+-- where the fold over all events finds nothing wrong
+pub none-wrong : (b : Bool) (n m : ℕ) (arrivals departures : List ℕ) {wrong : Bool} →
+    BrokenTold b n m arrivals departures wrong → not wrong ≡ true → Place.Nowhere ≡ placeOf (brokenIn b (timesOf n m arrivals departures))
+none-wrong b n m arrivals departures t e =
+    let R = timesOf n m arrivals departures in
+    event-none b R (m - ahead b) (omega arith) (omega arith)
+    (λ j l. firstFound-none n (eventAt b R j) (λ i p. given-false _ (t .right (not-true _ e) j i (omega arith) p)))

@@ -1,4 +1,3 @@
 -- What the functions' proofs cite.
 pub mod EventTests
-pub mod Folds
 pub mod Routes

@@ -16,8 +16,9 @@ use Rattle.places.specs.Place.{placeOf}
 use Rattle.places.proofs.Lowest.{nowhere-none, at-some}
 use Rattle.extents.specs.declared.Extent.{Extent}
 use Rattle.extents.specs.Extent.{extentOf}
-use Rattle.trips.specs.Places.{ofTimes, ahead, eventBroken, brokenIn, lowestEvent, further, cut, brokenAt}
-use Rattle.trips.specs.Needed.{InRoute, Lies, TimesLaid}
+use Rattle.route_times.specs.Route.{ahead, eventBroken, InRoute}
+use Rattle.trips.specs.Places.{ofTimes, brokenIn, lowestEvent, further, cut, brokenAt}
+use Rattle.trips.specs.Needed.{Lies, TimesLaid}
 
 further-else : (a : ℕ) (x y : Option ℕ) → orElse (further a x) (further a y) ≡ further a (orElse x y)
 unfolding further orElse

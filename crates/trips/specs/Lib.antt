@@ -1,4 +1,3 @@
--- What the functions of 7, 8 and 9 take and promise.
+-- What the functions of 8 and 9 take and promise.
 pub mod Places
 pub mod Needed
-pub mod Folds

@@ -1,9 +1,10 @@
--- What the functions of 7, 8 and 9 need of their callers: right counts, and tables of full size.
+-- What the functions of 8 and 9 need of their callers: right counts, and tables of full size.
 use mathlib.Core.List.{List}
 use Prim.Native.Nat.{ℕ, _+_, _*_, _≤_, _<_}
 use lib.ListN.{length}
 use Rattle.paper.specs.Timetable.{nOf, mOf, firstEvent}
 use Rattle.extents.specs.declared.Extent.{Extent}
+use Rattle.route_times.specs.Route.{InRoute}
 use Rattle.trips.specs.Places.{ofRoutes}
 
 -- table 1, and its counts are right
@@ -32,17 +33,7 @@ pub record Lies (x : Extent) (t3 t4 : List ℕ) : Type 0 where
   pub arrivals : 2048 ≤ length t3
   pub departures : 2048 ≤ length t4
 
--- one route's own times
-pub record InRoute (n m : ℕ) (arrivals departures : List ℕ) : Type 0 where
-  pub n≥ : 1 ≤ n
-  pub n≤ : n ≤ 64
-  pub m≥ : 1 ≤ m
-  pub m≤ : m ≤ 512
-  pub small : n * m ≤ 2048
-  pub arrivals≥ : n * m ≤ length arrivals
-  pub departures≥ : n * m ≤ length departures
-
--- one event of it, of trip j at position i; k more trips follow
+-- one event of one route's own times, of trip j at position i; k more trips follow
 pub record AtEvent (k n m : ℕ) (arrivals departures : List ℕ) (j i : ℕ) : Type 0 where
   pub route : InRoute n m arrivals departures
   pub trip : j + k < m

@@ -1,36 +1,26 @@
--- The tables that 7, 8 and 9 read, and 8 and 9 on one route.
-use mathlib.Core.Bool.{Bool, true, false}
+-- The tables that 8 and 9 read, and their lowest broken event on one route and on all.
+use mathlib.Core.Bool.{Bool, true, false, not, _&&_, _||_}
 use mathlib.Core.List.{List, []}
 use mathlib.Core.Option.{Option, none, some}
 use Prim.Native.Nat.{ℕ, _+_, _*_, _-_}
+use lib.Dec.{eqb, leb, ltb}
 use Rattle.laws.specs.Below.{given, firstFound}
 use Rattle.laws.specs.Lists.{part}
 use Rattle.paper.specs.Timetable.{Tables, Route}
-use Rattle.paper.specs.Rules.{timeBroken, overtakes, lowestTime, lowestOvertaken}
+use Rattle.paper.specs.Rules.{lowestTime, lowestOvertaken}
 use Rattle.extents.specs.declared.Extent.{Extent}
+use Rattle.route_times.specs.Route.{timesOf, ahead, eventBroken}
 
 -- tables of which a rule reads only some
 abbrev pub ofRoutes : ℕ → List ℕ → Tables
 ofRoutes count t1 = record { stops = 0; routes = count; walks = 0; t1 = t1; t2 = []; t3 = []; t4 = []; t5 = [] }
 
-abbrev pub ofStops : ℕ → List ℕ → Tables
-ofStops stops t2 = record { stops = stops; routes = 0; walks = 0; t1 = []; t2 = t2; t3 = []; t4 = []; t5 = [] }
-
 abbrev pub ofTimes : ℕ → List ℕ → List ℕ → List ℕ → Tables
 ofTimes count t1 t3 t4 = record { stops = 0; routes = count; walks = 0; t1 = t1; t2 = []; t3 = t3; t4 = t4; t5 = [] }
 
--- a route by itself, of which only the times are read
-abbrev pub timesOf : ℕ → ℕ → List ℕ → List ℕ → Route
-timesOf n m arrivals departures = record { n = n; m = m; stops = []; arrivals = arrivals; departures = departures }
-
--- 8, or 9 where overtaking is sought. Trip j's event is tested, and of 9 the next trip's is the place
-abbrev pub ahead : Bool → ℕ
-ahead true = 1
-ahead false = 0
-
-unfoldable pub eventBroken : Bool → Route → ℕ → ℕ → Bool
-eventBroken true = overtakes
-eventBroken false = timeBroken
+-- 8 of an event's own times, which are equal at both ends of a trip
+unfoldable pub ownBroken : Bool → ℕ → ℕ → Bool
+ownBroken outer arrive depart = leb 172800 arrive || leb 172800 depart || ltb depart arrive || outer && not (eqb arrive depart)
 
 -- the lowest broken event of a route, counted within the route
 unfoldable pub brokenIn : Bool → Route → Option ℕ

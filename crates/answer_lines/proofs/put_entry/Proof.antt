@@ -1,9 +1,13 @@
 -- `answer_lines::put_entry` meets its contract.
-use Rattle.answer_lines.proofs.Puts.{put-append}
+use Rattle.lettering.proofs.Puts.{put-append}
 use Rattle.paper.specs.Lines.{entryLines}
 use borrow.Author.Needs.{needs}
 use Rattle.answer_lines.proofs.put_entry.Statement.{statement}
 use Rattle.answer_lines.proofs.put_entry.Tie as tie
+
+-- from a place of the code to the places around it
+abbrev trips : tie.After-put-legs → tie.After-put-trips
+trips c = c .before .before .before .before .before
 
 put-trips-requires : tie.Need-put-trips-requires
 put-trips-requires c κs = search needs
@@ -19,7 +23,7 @@ same-length c = search needs
 
 returns : tie.Need-returns
 unfolding entryLines
-returns c = put-append (c .before .before .before .before .before .before .before .put-trips .ensures) (c .before .before .put-legs .ensures)
+returns c = let l = c .before .before in put-append (trips l .put-trips .ensures) (l .put-legs .ensures)
 
 pub put-entry-spec : {M : Type 1} → statement M
 put-entry-spec =

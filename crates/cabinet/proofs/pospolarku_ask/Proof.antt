@@ -3,6 +3,13 @@ use borrow.Author.Needs.{needs}
 use Rattle.cabinet.proofs.pospolarku_ask.Statement.{statement}
 use Rattle.cabinet.proofs.pospolarku_ask.Tie as tie
 
+-- from a place of the code to the places around it
+abbrev listed : tie.After-verdict-number → tie.After-put-entries
+listed c = c .before .before .before
+
+abbrev asked : tie.After-put-entries → tie.After-ask
+asked c = c .before .before .before .before .before .before .before
+
 ask-requires : tie.Need-ask-requires
 ask-requires c κs = search needs
 
@@ -24,9 +31,9 @@ same-length-3 c = search needs
 returns : tie.Need-returns
 returns c = record {
   answer = _;
-  replied = c .before .before .before .before .before .before .before .before .before .before .ask .ensures;
+  replied = asked (listed c) .ask .ensures;
   number = c .verdict-number .ensures;
-  entries-are = c .before .before .before .put-entries .ensures;
+  entries-are = listed c .put-entries .ensures;
 }
 
 pub pospolarku-ask-spec : {M : Type 1} → statement M

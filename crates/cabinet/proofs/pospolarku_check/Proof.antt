@@ -1,6 +1,6 @@
 -- `cabinet::pospolarku_check` meets its contract, from that of `timetable::check`.
 use mathlib.Core.Path.{ap, _∙_}
-use Rattle.cabinet.specs.Packed.{checkedNumber}
+use Rattle.packing.specs.Packed.{checkedNumber}
 use borrow.Author.Needs.{needs}
 use Rattle.cabinet.proofs.pospolarku_check.Statement.{statement}
 use Rattle.cabinet.proofs.pospolarku_check.Tie as tie

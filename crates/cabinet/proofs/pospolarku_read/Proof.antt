@@ -3,6 +3,10 @@ use borrow.Author.Needs.{needs}
 use Rattle.cabinet.proofs.pospolarku_read.Statement.{statement}
 use Rattle.cabinet.proofs.pospolarku_read.Tie as tie
 
+-- from a place of the code to the places around it
+abbrev filled : tie.After-reading-number → tie.After-read
+filled c = c .before .before .before .before .before .before .before .before .before .before .before
+
 read-requires : tie.Need-read-requires
 read-requires c κs = search needs
 
@@ -27,7 +31,7 @@ same-length-5 c = search needs
 returns : tie.Need-returns
 returns c = record {
   reading = _;
-  leaves = c .before .before .before .before .before .before .before .before .before .before .before .read .ensures;
+  leaves = filled c .read .ensures;
   number = c .reading-number .ensures;
 }
 

@@ -1,12 +1,39 @@
 -- `feed::read` meets its contract: 01's order of refusals.
 use borrow.Author.Needs.{needs}
-use mathlib.Core.Path.{sym, _∙_}
+use mathlib.Core.Path.{_≡_, sym, _∙_}
+use mathlib.Core.Bool.{true}
+use mathlib.Core.List.{List}
+use Prim.Native.Nat.{ℕ}
 use native.Mathlib.Omega.{arith}
-use Rattle.records.proofs.Held.{fell, stood}
+use Rattle.laws.proofs.Tests.{fell, stood}
+use Rattle.paper.specs.Reading.{lengthRight}
 use Rattle.feed.proofs.Top.{length-bounds}
 use Rattle.feed.proofs.Answers.{leaves-short, leaves-length, leaves-sum, body-room, leaves-body}
 use Rattle.feed.proofs.read.Statement.{statement}
 use Rattle.feed.proofs.read.Tie as tie
+
+-- from a place of the code to the places before it: an added statement changes one of these lines
+abbrev entry : tie.After-short-table → tie.Start
+entry c = c .before .before .before .before .before .before .before
+
+abbrev asked : tie.After-enum-told → tie.After-short-table
+asked c = c .before .before
+
+abbrev full : tie.Else1 → tie.After-enum-told
+full c = c .before .before
+
+abbrev summed : tie.After-read-body-arg5 → tie.Else2
+summed c = c .before .before .before .before .before
+
+abbrev body : tie.After-slice-known10 → tie.After-read-body
+body c = c .before .before .before .before .before .before .before .before .before .before
+
+abbrev feed : tie.After-short-table → List ℕ
+feed c = entry c .args .feed .now
+
+-- behind the test of 1 the length is right
+long : (c : tie.Else1) → lengthRight (feed (asked (full c))) ≡ true
+long c = stood (c .before .length-fits .ensures) (c .if1 .left)
 
 short-table-requires : tie.Need-short-table-requires
 short-table-requires c κs = search needs
@@ -15,7 +42,7 @@ enum-known-short : tie.Need-enum-known-short
 enum-known-short c = search needs
 
 returns : tie.Need-returns
-returns c = leaves-short (c .before .before .before .before .before .before .before .before .before .before .args .feed .now) _ (sym (c .before .short .given .1) ∙ c .before .before .before .short-table .ensures)
+returns c = let t = c .before .before .before in leaves-short (feed t) _ (sym (c .before .short .given .1) ∙ t .short-table .ensures)
 
 enum-told : tie.Need-enum-told
 enum-told c = search needs
@@ -24,22 +51,30 @@ length-fits-requires : tie.Need-length-fits-requires
 length-fits-requires c κs = search needs
 
 returns-2 : tie.Need-returns-2
-returns-2 c = leaves-length (c .before .before .before .before .before .before .before .before .before .before .before .args .feed .now) _ (sym (c .before .before .enum-told .given .1) ∙ c .before .before .before .before .short-table .ensures) (fell (c .before .length-fits .ensures) (c .if1 .taken))
+returns-2 c =
+    let e = c .before .before in
+    leaves-length (feed (asked e)) _ (sym (e .enum-told .given .1) ∙ asked e .short-table .ensures) (fell (c .before .length-fits .ensures) (c .if1 .taken))
 
 sum-fits-requires : tie.Need-sum-fits-requires
-sum-fits-requires c κs = length-bounds (c .before .before .before .before .before .before .before .before .before .before .before .args .feed .now) (stood (c .before .length-fits .ensures) (c .if1 .left)) .0
+sum-fits-requires c κs = length-bounds _ (long c) .0
 
 sub-t17 : tie.Need-sub-t17
-sub-t17 c = omega (arith, length-bounds (c .before .before .before .before .before .before .before .before .before .before .before .before .before .args .feed .now) (stood (c .before .before .before .length-fits .ensures) (c .before .before .if1 .left)))
+sub-t17 c = omega (arith, length-bounds _ (long (c .before .before)))
 
 cast-t18 : tie.Need-cast-t18
-cast-t18 c = omega (arith, length-bounds (c .before .before .before .before .before .before .before .before .before .before .before .before .before .args .feed .now) (stood (c .before .before .before .length-fits .ensures) (c .before .before .if1 .left)))
+cast-t18 c = omega (arith, length-bounds _ (long (c .before .before)))
 
 returns-3 : tie.Need-returns-3
-returns-3 c = leaves-sum (c .before .before .before .before .before .before .before .before .before .before .before .before .before .args .feed .now) _ (sym (c .before .before .before .before .enum-told .given .1) ∙ c .before .before .before .before .before .before .short-table .ensures) (stood (c .before .before .before .length-fits .ensures) (c .before .before .if1 .left)) (fell (c .before .sum-fits .ensures) (c .if2 .taken))
+returns-3 c =
+    let l = c .before .before in
+    let e = full l in
+    leaves-sum (feed (asked e)) _ (sym (e .enum-told .given .1) ∙ asked e .short-table .ensures) (long l) (fell (c .before .sum-fits .ensures) (c .if2 .taken))
 
 read-body-requires : tie.Need-read-body-requires
-read-body-requires c κs = body-room (stood (c .before .before .before .before .before .before .before .before .length-fits .ensures) (c .before .before .before .before .before .before .before .if1 .left)) (sym (c .before .before .before .before .before .before .before .before .before .enum-told .given .1) ∙ c .before .before .before .before .before .before .before .before .before .before .before .short-table .ensures)
+read-body-requires c κs =
+    let l = summed c .before .before in
+    let e = full l in
+    body-room (long l) (sym (e .enum-told .given .1) ∙ asked e .short-table .ensures)
 
 same-length : tie.Need-same-length
 same-length c = search needs
@@ -57,7 +92,13 @@ same-length-5 : tie.Need-same-length-5
 same-length-5 c = search needs
 
 returns-4 : tie.Need-returns-4
-returns-4 c = leaves-body (c .before .before .before .before .before .before .before .before .before .before .before .before .before .before .before .before .before .before .before .before .before .before .before .before .before .before .before .before .before .args .feed .now) _ (sym (c .before .before .before .before .before .before .before .before .before .before .before .before .before .before .before .before .before .before .before .before .enum-told .given .1) ∙ c .before .before .before .before .before .before .before .before .before .before .before .before .before .before .before .before .before .before .before .before .before .before .short-table .ensures) (stood (c .before .before .before .before .before .before .before .before .before .before .before .before .before .before .before .before .before .before .before .length-fits .ensures) (c .before .before .before .before .before .before .before .before .before .before .before .before .before .before .before .before .before .before .if1 .left)) (stood (c .before .before .before .before .before .before .before .before .before .before .before .before .before .before .before .before .before .sum-fits .ensures) (c .before .before .before .before .before .before .before .before .before .before .before .before .before .before .before .before .if2 .left)) (c .before .before .before .before .before .before .before .before .before .before .read-body .ensures)
+returns-4 c =
+    let b = body c in
+    let s = summed (b .before) in
+    let l = s .before .before in
+    let e = full l in
+    leaves-body (feed (asked e)) _ (sym (e .enum-told .given .1) ∙ asked e .short-table .ensures) (long l) (stood (s .before .sum-fits .ensures) (s .if2 .left))
+    (b .read-body .ensures)
 
 pub read-spec : {M : Type 1} → statement M
 read-spec =

@@ -1,12 +1,50 @@
 -- `feed::write` meets its contract: 01's order of refusals, then the feed.
 use borrow.Author.Needs.{needs}
-use mathlib.Core.Path.{sym, _∙_}
+use mathlib.Core.Path.{_≡_, sym, _∙_}
+use Prim.Native.Nat.{_<_}
 use native.Mathlib.Omega.{arith}
-use Rattle.paper.specs.Timetable.{tables}
+use Rattle.paper.specs.Timetable.{Tables, tables}
+use Rattle.paper.specs.Rules.{Fit}
+use Rattle.paper.specs.Feed.{sizeOf}
+use Rattle.timetable.specs.Places.{faultAs}
+use Rattle.timetable.specs.declared.Fault.{Fault}
 use Rattle.sending.proofs.Feed.{size-fits, size-by, size-small}
+use Rattle.feed.specs.Writing.{tablesFault}
 use Rattle.feed.proofs.Answers.{sends-refused, fit, sends-long, sends-done}
 use Rattle.feed.proofs.write.Statement.{statement}
 use Rattle.feed.proofs.write.Tie as tie
+
+-- from a place of the code to the places before it: an added statement changes one of these lines
+abbrev entry : tie.After-fault-in → tie.Start
+entry c = c .before .before .before .before .before .before .before
+
+abbrev judged : tie.After-enum-told → tie.After-fault-in
+judged c = c .before .before
+
+abbrev kept : tie.After-size-of → tie.After-enum-told
+kept c = c .before .before .before
+
+abbrev sent : tie.After-slice-known2 → tie.After-put-feed
+sent c = c .before .before
+
+abbrev roomy : tie.After-put-feed → tie.Else1
+roomy c = c .before .before
+
+-- what is known where the tables are not refused, and where the size is known
+abbrev T : tie.After-fault-in → Tables
+T c = let x = entry c .args in tables (x .heads) (x .routes .now) (x .positions .now) (x .arrivals .now) (x .departures .now) (x .walks .now)
+
+unbroken : (c : tie.After-enum-told) → Fault.Unbroken ≡ faultAs (tablesFault (T (judged c)))
+unbroken c = sym (c .enum-told .given .1) ∙ judged c .fault-in .ensures
+
+fitting : (c : tie.After-enum-told) → Fit (T (judged c))
+fitting c = fit (T (judged c)) (unbroken c)
+
+sized : (c : tie.After-size-of) → c .size-of .result ≡ sizeOf (T (judged (kept c)))
+sized c = c .size-of .ensures ∙ size-by (fitting (kept c))
+
+small : (c : tie.After-size-of) → c .size-of .result < 4294967296
+small c = omega (arith, sized c, size-small (fitting (kept c)))
 
 fault-in-requires : tie.Need-fault-in-requires
 fault-in-requires c κs = search needs
@@ -15,7 +53,7 @@ enum-known-fault : tie.Need-enum-known-fault
 enum-known-fault c = search needs
 
 returns : tie.Need-returns
-returns c = sends-refused (tables (c .before .before .before .before .before .before .before .before .before .before .args .heads) (c .before .before .before .before .before .before .before .before .before .before .args .routes .now) (c .before .before .before .before .before .before .before .before .before .before .args .positions .now) (c .before .before .before .before .before .before .before .before .before .before .args .arrivals .now) (c .before .before .before .before .before .before .before .before .before .before .args .departures .now) (c .before .before .before .before .before .before .before .before .before .before .args .walks .now)) (sym (c .before .fault .given .1) ∙ c .before .before .before .fault-in .ensures)
+returns c = let j = c .before .before .before in sends-refused (T j) (sym (c .before .fault .given .1) ∙ j .fault-in .ensures)
 
 enum-told : tie.Need-enum-told
 enum-told c = search needs
@@ -27,28 +65,32 @@ cast-size-of-2 : tie.Need-cast-size-of-2
 cast-size-of-2 c = search needs
 
 size-of-requires : tie.Need-size-of-requires
-size-of-requires c κs = size-fits (fit (tables (c .before .before .before .before .before .before .before .before .before .before .before .args .heads) (c .before .before .before .before .before .before .before .before .before .before .before .args .routes .now) (c .before .before .before .before .before .before .before .before .before .before .before .args .positions .now) (c .before .before .before .before .before .before .before .before .before .before .before .args .arrivals .now) (c .before .before .before .before .before .before .before .before .before .before .before .args .departures .now) (c .before .before .before .before .before .before .before .before .before .before .before .args .walks .now)) (sym (c .before .before .enum-told .given .1) ∙ c .before .before .before .before .fault-in .ensures))
+size-of-requires c κs = size-fits (fitting (c .before .before))
 
 cast-t15 : tie.Need-cast-t15
-cast-t15 c = omega (arith, (c .before .size-of .ensures ∙ size-by (fit (tables (c .before .before .before .before .before .before .before .before .before .before .before .before .before .args .heads) (c .before .before .before .before .before .before .before .before .before .before .before .before .before .args .routes .now) (c .before .before .before .before .before .before .before .before .before .before .before .before .before .args .positions .now) (c .before .before .before .before .before .before .before .before .before .before .before .before .before .args .arrivals .now) (c .before .before .before .before .before .before .before .before .before .before .before .before .before .args .departures .now) (c .before .before .before .before .before .before .before .before .before .before .before .before .before .args .walks .now)) (sym (c .before .before .before .before .enum-told .given .1) ∙ c .before .before .before .before .before .before .fault-in .ensures))), size-small (fit (tables (c .before .before .before .before .before .before .before .before .before .before .before .before .before .args .heads) (c .before .before .before .before .before .before .before .before .before .before .before .before .before .args .routes .now) (c .before .before .before .before .before .before .before .before .before .before .before .before .before .args .positions .now) (c .before .before .before .before .before .before .before .before .before .before .before .before .before .args .arrivals .now) (c .before .before .before .before .before .before .before .before .before .before .before .before .before .args .departures .now) (c .before .before .before .before .before .before .before .before .before .before .before .before .before .args .walks .now)) (sym (c .before .before .before .before .enum-told .given .1) ∙ c .before .before .before .before .before .before .fault-in .ensures)))
+cast-t15 c = omega (arith, small (c .before))
 
 returns-2 : tie.Need-returns-2
-returns-2 c = sends-long (tables (c .before .before .before .before .before .before .before .before .before .before .before .before .before .args .heads) (c .before .before .before .before .before .before .before .before .before .before .before .before .before .args .routes .now) (c .before .before .before .before .before .before .before .before .before .before .before .before .before .args .positions .now) (c .before .before .before .before .before .before .before .before .before .before .before .before .before .args .arrivals .now) (c .before .before .before .before .before .before .before .before .before .before .before .before .before .args .departures .now) (c .before .before .before .before .before .before .before .before .before .before .before .before .before .args .walks .now)) (sym (c .before .before .before .before .enum-told .given .1) ∙ c .before .before .before .before .before .before .fault-in .ensures) (c .before .size-of .ensures ∙ size-by (fit (tables (c .before .before .before .before .before .before .before .before .before .before .before .before .before .args .heads) (c .before .before .before .before .before .before .before .before .before .before .before .before .before .args .routes .now) (c .before .before .before .before .before .before .before .before .before .before .before .before .before .args .positions .now) (c .before .before .before .before .before .before .before .before .before .before .before .before .before .args .arrivals .now) (c .before .before .before .before .before .before .before .before .before .before .before .before .before .args .departures .now) (c .before .before .before .before .before .before .before .before .before .before .before .before .before .args .walks .now)) (sym (c .before .before .before .before .enum-told .given .1) ∙ c .before .before .before .before .before .before .fault-in .ensures))) (c .if1 .taken)
+returns-2 c = let s = c .before in sends-long _ (unbroken (kept s)) (sized s) (c .if1 .taken)
 
 cast-put-feed : tie.Need-cast-put-feed
-cast-put-feed c = omega (arith, (c .before .size-of .ensures ∙ size-by (fit (tables (c .before .before .before .before .before .before .before .before .before .before .before .before .before .args .heads) (c .before .before .before .before .before .before .before .before .before .before .before .before .before .args .routes .now) (c .before .before .before .before .before .before .before .before .before .before .before .before .before .args .positions .now) (c .before .before .before .before .before .before .before .before .before .before .before .before .before .args .arrivals .now) (c .before .before .before .before .before .before .before .before .before .before .before .before .before .args .departures .now) (c .before .before .before .before .before .before .before .before .before .before .before .before .before .args .walks .now)) (sym (c .before .before .before .before .enum-told .given .1) ∙ c .before .before .before .before .before .before .fault-in .ensures))), size-small (fit (tables (c .before .before .before .before .before .before .before .before .before .before .before .before .before .args .heads) (c .before .before .before .before .before .before .before .before .before .before .before .before .before .args .routes .now) (c .before .before .before .before .before .before .before .before .before .before .before .before .before .args .positions .now) (c .before .before .before .before .before .before .before .before .before .before .before .before .before .args .arrivals .now) (c .before .before .before .before .before .before .before .before .before .before .before .before .before .args .departures .now) (c .before .before .before .before .before .before .before .before .before .before .before .before .before .args .walks .now)) (sym (c .before .before .before .before .enum-told .given .1) ∙ c .before .before .before .before .before .before .fault-in .ensures)))
+cast-put-feed c = omega (arith, small (c .before))
 
 put-feed-requires : tie.Need-put-feed-requires
-put-feed-requires c κs = record { fit = (fit (tables (c .before .before .before .before .before .before .before .before .before .before .before .before .before .before .args .heads) (c .before .before .before .before .before .before .before .before .before .before .before .before .before .before .args .routes .now) (c .before .before .before .before .before .before .before .before .before .before .before .before .before .before .args .positions .now) (c .before .before .before .before .before .before .before .before .before .before .before .before .before .before .args .arrivals .now) (c .before .before .before .before .before .before .before .before .before .before .before .before .before .before .args .departures .now) (c .before .before .before .before .before .before .before .before .before .before .before .before .before .before .args .walks .now)) (sym (c .before .before .before .before .before .enum-told .given .1) ∙ c .before .before .before .before .before .before .before .fault-in .ensures)); is = (c .before .before .size-of .ensures ∙ size-by (fit (tables (c .before .before .before .before .before .before .before .before .before .before .before .before .before .before .args .heads) (c .before .before .before .before .before .before .before .before .before .before .before .before .before .before .args .routes .now) (c .before .before .before .before .before .before .before .before .before .before .before .before .before .before .args .positions .now) (c .before .before .before .before .before .before .before .before .before .before .before .before .before .before .args .arrivals .now) (c .before .before .before .before .before .before .before .before .before .before .before .before .before .before .args .departures .now) (c .before .before .before .before .before .before .before .before .before .before .before .before .before .before .args .walks .now)) (sym (c .before .before .before .before .before .enum-told .given .1) ∙ c .before .before .before .before .before .before .before .fault-in .ensures))); room = c .before .if1 .left }
+put-feed-requires c κs = let s = c .before .before in record { fit = fitting (kept s); is = sized s; room = c .before .if1 .left }
 
 cast-t16 : tie.Need-cast-t16
-cast-t16 c = omega (arith, (c .before .before .before .before .before .size-of .ensures ∙ size-by (fit (tables (c .before .before .before .before .before .before .before .before .before .before .before .before .before .before .before .before .before .args .heads) (c .before .before .before .before .before .before .before .before .before .before .before .before .before .before .before .before .before .args .routes .now) (c .before .before .before .before .before .before .before .before .before .before .before .before .before .before .before .before .before .args .positions .now) (c .before .before .before .before .before .before .before .before .before .before .before .before .before .before .before .before .before .args .arrivals .now) (c .before .before .before .before .before .before .before .before .before .before .before .before .before .before .before .before .before .args .departures .now) (c .before .before .before .before .before .before .before .before .before .before .before .before .before .before .before .before .before .args .walks .now)) (sym (c .before .before .before .before .before .before .before .before .enum-told .given .1) ∙ c .before .before .before .before .before .before .before .before .before .before .fault-in .ensures))), size-small (fit (tables (c .before .before .before .before .before .before .before .before .before .before .before .before .before .before .before .before .before .args .heads) (c .before .before .before .before .before .before .before .before .before .before .before .before .before .before .before .before .before .args .routes .now) (c .before .before .before .before .before .before .before .before .before .before .before .before .before .before .before .before .before .args .positions .now) (c .before .before .before .before .before .before .before .before .before .before .before .before .before .before .before .before .before .args .arrivals .now) (c .before .before .before .before .before .before .before .before .before .before .before .before .before .before .before .before .before .args .departures .now) (c .before .before .before .before .before .before .before .before .before .before .before .before .before .before .before .before .before .args .walks .now)) (sym (c .before .before .before .before .before .before .before .before .enum-told .given .1) ∙ c .before .before .before .before .before .before .before .before .before .before .fault-in .ensures)))
+cast-t16 c = omega (arith, small (roomy (sent c) .before))
 
 same-length : tie.Need-same-length
 same-length c = search needs
 
 returns-3 : tie.Need-returns-3
-returns-3 c = sends-done (tables (c .before .before .before .before .before .before .before .before .before .before .before .before .before .before .before .before .before .args .heads) (c .before .before .before .before .before .before .before .before .before .before .before .before .before .before .before .before .before .args .routes .now) (c .before .before .before .before .before .before .before .before .before .before .before .before .before .before .before .before .before .args .positions .now) (c .before .before .before .before .before .before .before .before .before .before .before .before .before .before .before .before .before .args .arrivals .now) (c .before .before .before .before .before .before .before .before .before .before .before .before .before .before .before .before .before .args .departures .now) (c .before .before .before .before .before .before .before .before .before .before .before .before .before .before .before .before .before .args .walks .now)) (sym (c .before .before .before .before .before .before .before .before .enum-told .given .1) ∙ c .before .before .before .before .before .before .before .before .before .before .fault-in .ensures) (c .before .before .before .before .before .size-of .ensures ∙ size-by (fit (tables (c .before .before .before .before .before .before .before .before .before .before .before .before .before .before .before .before .before .args .heads) (c .before .before .before .before .before .before .before .before .before .before .before .before .before .before .before .before .before .args .routes .now) (c .before .before .before .before .before .before .before .before .before .before .before .before .before .before .before .before .before .args .positions .now) (c .before .before .before .before .before .before .before .before .before .before .before .before .before .before .before .before .before .args .arrivals .now) (c .before .before .before .before .before .before .before .before .before .before .before .before .before .before .before .before .before .args .departures .now) (c .before .before .before .before .before .before .before .before .before .before .before .before .before .before .before .before .before .args .walks .now)) (sym (c .before .before .before .before .before .before .before .before .enum-told .given .1) ∙ c .before .before .before .before .before .before .before .before .before .before .fault-in .ensures))) (c .before .before .before .before .if1 .left) (c .before .before .put-feed .ensures)
+returns-3 c =
+    let p = sent c in
+    let r = roomy p in
+    let s = r .before in
+    sends-done _ (unbroken (kept s)) (sized s) (r .if1 .left) (p .put-feed .ensures)
 
 pub write-spec : {M : Type 1} → statement M
 write-spec =

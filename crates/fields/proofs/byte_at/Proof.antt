@@ -7,14 +7,17 @@ use Rattle.fields.proofs.Ends.{beyond}
 use Rattle.fields.proofs.byte_at.Statement.{statement}
 use Rattle.fields.proofs.byte_at.Tie as tie
 
+abbrev entry : tie.After-shared-slice-known → tie.Start
+entry c = c .before .before .before
+
 returns : tie.Need-returns
-returns c = record { is = sym (beyond (c .before .args .feed .now) (c .before .args .at + c .before .args .off) (omega arith)); small = omega arith }
+returns c = let a = c .before .args in record { is = sym (beyond (a .feed .now) (a .at + a .off) (omega arith)); small = omega arith }
 
 sub-if2 : tie.Need-sub-if2
 sub-if2 c = search needs
 
 returns-2 : tie.Need-returns-2
-returns-2 c = record { is = sym (beyond (c .before .before .args .feed .now) (c .before .before .args .at + c .before .before .args .off) (omega arith)); small = omega arith }
+returns-2 c = let a = c .before .before .args in record { is = sym (beyond (a .feed .now) (a .at + a .off) (omega arith)); small = omega arith }
 
 add-result : tie.Need-add-result
 add-result c = search needs
@@ -23,10 +26,10 @@ shared-slice-read-result : tie.Need-shared-slice-read-result
 shared-slice-read-result c = search needs
 
 cast-result : tie.Need-cast-result
-cast-result c = omega (arith, c .shared-slice-known .given (c .before .before .before .args .at + c .before .before .before .args .off))
+cast-result c = let a = entry c .args in omega (arith, c .shared-slice-known .given (a .at + a .off))
 
 returns-3 : tie.Need-returns-3
-returns-3 c = record { is = refl; small = omega (arith, c .shared-slice-known .given (c .before .before .before .args .at + c .before .before .before .args .off)) }
+returns-3 c = let a = entry c .args in record { is = refl; small = omega (arith, c .shared-slice-known .given (a .at + a .off)) }
 
 pub byte-at-spec : {M : Type 1} → statement M
 byte-at-spec =

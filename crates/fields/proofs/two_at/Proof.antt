@@ -7,8 +7,11 @@ use Rattle.fields.proofs.Ends.{two-beyond, two-by}
 use Rattle.fields.proofs.two_at.Statement.{statement}
 use Rattle.fields.proofs.two_at.Tie as tie
 
+abbrev entry : tie.After-byte-at → tie.Start
+entry c = c .before .before .before
+
 returns : tie.Need-returns
-returns c = record { is = sym (two-beyond (c .before .before .args .feed .now) (c .before .before .args .at + c .before .before .args .off) (omega arith)); small = omega arith }
+returns c = let a = c .before .before .args in record { is = sym (two-beyond (a .feed .now) (a .at + a .off) (omega arith)); small = omega arith }
 
 byte-at-requires : tie.Need-byte-at-requires
 byte-at-requires c κs = search needs
@@ -26,7 +29,11 @@ add-result : tie.Need-add-result
 add-result c = search needs
 
 returns-2 : tie.Need-returns-2
-returns-2 c = record { is = two-by (c .before .before .before .before .args .feed .now) (c .before .before .before .before .args .at) (c .before .before .before .before .args .off) (c .before .byte-at .ensures .is) (c .byte-at2 .ensures .is); small = omega (arith, c .before .byte-at .ensures .small, c .byte-at2 .ensures .small) }
+returns-2 c =
+    let a = entry (c .before) .args in
+    let high = c .before .byte-at .ensures in
+    let low = c .byte-at2 .ensures in
+    record { is = two-by (a .feed .now) (a .at) (a .off) (high .is) (low .is); small = omega (arith, high .small, low .small) }
 
 pub two-at-spec : {M : Type 1} → statement M
 two-at-spec =

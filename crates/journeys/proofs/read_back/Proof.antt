@@ -22,11 +22,14 @@ need N = N Inv-loop μ-loop
 abbrev turn : need tie.Then1 → need tie.At-loop
 turn c = c .before .before
 
+abbrev entry : need tie.After-clear-arg → need tie.Start
+entry c = c .before .before .before .before .before .before .before .before
+
 abbrev start : need tie.After-slice-known2 → need tie.Start
-start c = c .before .before .before .before .before .before .before .before .before .before .before
+start c = entry (c .before .before .before)
 
 clear-requires : need tie.Need-clear-requires
-clear-requires c κs = c .before .before .before .before .before .before .before .before .pre .legs-room
+clear-requires c κs = entry c .pre .legs-room
 
 loop-holds : need tie.Need-loop-holds
 loop-holds c = listing-start (start c .args .legs .now) _ (start c .pre) (c .before .before .clear .ensures)

@@ -1,10 +1,33 @@
 -- `planner::ask` meets its contract: each refusal in its order, or the search.
-use mathlib.Core.Path.{sym, _∙_}
+use Rattle.paper.specs.Timetable.{Tables, lent}
 use Rattle.paper.specs.Reply.{questionBroken}
 use borrow.Author.Needs.{needs}
 use Rattle.planner.proofs.Paths.{by-short, full, by-fault, by-question, ready}
 use Rattle.planner.proofs.ask.Statement.{statement}
 use Rattle.planner.proofs.ask.Tie as tie
+
+-- from a place of the code to the places around it: an added statement changes one of these lines
+abbrev start : tie.After-short-table → tie.Start
+start c = c .before .before .before .before .before .before .before .before
+
+abbrev long : tie.After-enum-told → tie.After-short-table
+long c = c .before .before
+
+abbrev sound : tie.After-enum-told2 → tie.After-fault-of
+sound c = c .before .before
+
+abbrev unsound : tie.After-refuse2 → tie.After-fault
+unsound c = c .before .before
+
+abbrev bad : tie.After-refuse3 → tie.After-question-broken
+bad c = c .before .before
+
+abbrev good : tie.After-search-arg2 → tie.After-question-broken
+good c = c .before .before .before
+
+-- the tables as they are lent
+abbrev T : tie.Start → Tables
+T s = lent (s .args .heads) (s .args .routes) (s .args .positions) (s .args .arrivals) (s .args .departures) (s .args .walks)
 
 short-table-requires : tie.Need-short-table-requires
 short-table-requires c κs = search needs
@@ -16,13 +39,16 @@ refuse-requires : tie.Need-refuse-requires
 refuse-requires c κs = search needs
 
 returns : tie.Need-returns
-returns c = by-short _ _ _ _ (sym (c .before .before .short .given .1) ∙ c .before .before .before .before .short-table .ensures) (c .refuse .ensures)
+returns c = by-short _ _ _ _ (c .before .before .short .given .1) (c .before .before .before .before .short-table .ensures) (c .refuse .ensures)
 
 enum-told : tie.Need-enum-told
 enum-told c = search needs
 
 fault-of-requires : tie.Need-fault-of-requires
-fault-of-requires c κs = full _ (c .before .before .before .before .before .before .before .before .before .before .args .labels .now) (c .before .before .before .before .before .before .before .before .before .before .args .legs .now) (c .before .before .before .before .before .before .before .before .before .before .args .q) (sym (c .enum-told .given .1) ∙ c .before .before .short-table .ensures)
+fault-of-requires c κs =
+    let l = long c in
+    let s = start l in
+    full (T s) (s .args .labels .now) (s .args .legs .now) (s .args .q) (c .enum-told .given .1) (l .short-table .ensures)
 
 enum-known-fault : tie.Need-enum-known-fault
 enum-known-fault c = search needs
@@ -31,7 +57,11 @@ refuse-requires-2 : tie.Need-refuse-requires-2
 refuse-requires-2 c κs = search needs
 
 returns-2 : tie.Need-returns-2
-returns-2 c = by-fault _ _ _ _ (sym (c .before .before .before .before .before .enum-told .given .1) ∙ c .before .before .before .before .before .before .before .short-table .ensures) (sym (c .before .before .fault .given .1) ∙ c .before .before .before .before .fault-of .ensures) (c .refuse2 .ensures)
+returns-2 c =
+    let u = unsound c in
+    let f = u .before .before in
+    let e = f .before in
+    by-fault (T (start (long e))) _ _ _ (e .enum-told .given .1) (long e .short-table .ensures) (u .fault .given .1) (f .fault-of .ensures) (c .refuse2 .ensures)
 
 enum-told-2 : tie.Need-enum-told-2
 enum-told-2 c = search needs
@@ -44,11 +74,23 @@ refuse-requires-3 c κs = search needs
 
 returns-3 : tie.Need-returns-3
 unfolding questionBroken
-returns-3 c = by-question _ _ _ _ (sym (c .before .before .before .before .before .before .enum-told .given .1) ∙ c .before .before .before .before .before .before .before .before .short-table .ensures) (sym (c .before .before .before .enum-told2 .given .1) ∙ c .before .before .before .before .before .fault-of .ensures) (sym (c .before .before .question-broken .ensures) ∙ c .before .if1 .taken) (c .refuse3 .ensures)
+returns-3 c =
+    let b = bad c in
+    let d = b .before in
+    let f = sound d in
+    let e = f .before in
+    by-question (T (start (long e))) _ _ _ (e .enum-told .given .1) (long e .short-table .ensures) (d .enum-told2 .given .1) (f .fault-of .ensures)
+    (b .question-broken .ensures) (c .before .if1 .taken) (c .refuse3 .ensures)
 
 search-requires : tie.Need-search-requires
 unfolding questionBroken
-search-requires c κs = ready _ _ _ _ (sym (c .before .before .before .before .before .before .before .enum-told .given .1) ∙ c .before .before .before .before .before .before .before .before .before .short-table .ensures) (sym (c .before .before .before .before .enum-told2 .given .1) ∙ c .before .before .before .before .before .before .fault-of .ensures) (sym (c .before .before .before .question-broken .ensures) ∙ c .before .before .if1 .left)
+search-requires c κs =
+    let b = good c in
+    let d = b .before in
+    let f = sound d in
+    let e = f .before in
+    ready (T (start (long e))) _ _ _ (e .enum-told .given .1) (long e .short-table .ensures) (d .enum-told2 .given .1) (f .fault-of .ensures)
+    (b .question-broken .ensures) (c .before .before .if1 .left)
 
 same-length : tie.Need-same-length
 same-length c = search needs

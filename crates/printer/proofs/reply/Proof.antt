@@ -4,6 +4,13 @@ use borrow.Author.Needs.{needs}
 use Rattle.printer.proofs.reply.Statement.{statement}
 use Rattle.printer.proofs.reply.Tie as tie
 
+-- from a place of the code to the places around it
+abbrev filled : tie.After-walks2 → tie.After-read
+filled c = c .before .before .before .before .before
+
+abbrev accepted : tie.After-answer → tie.After-read3
+accepted c = c .before .before .before .before .before .before .before .before
+
 slice-aggregate-read : tie.Need-slice-aggregate-read
 slice-aggregate-read c = search needs
 
@@ -53,13 +60,19 @@ same-length : tie.Need-same-length
 same-length c = search needs
 
 returns : tie.Need-returns
-returns c = refused-says _ _ (c .before .before .before .before .before .before .before .before .before .before .before .before .read .ensures) (c .before .before .before .before .before .read2 .given .1) (c .before .before .refuse .ensures)
+returns c =
+    let r = c .before .before in
+    let a = r .before .before .before in
+    refused-says _ _ (filled (a .before .before) .read .ensures) (a .read2 .given .1) (r .refuse .ensures)
 
 same-length-2 : tie.Need-same-length-2
 same-length-2 c = search needs
 
 returns-2 : tie.Need-returns-2
-returns-2 c = accepted-says _ _ (c .before .before .before .before .before .before .before .before .before .before .before .before .before .before .before .before .before .read .ensures) (c .before .before .before .before .before .before .before .before .before .before .read3 .given .1) (c .before .before .answer .ensures)
+returns-2 c =
+    let r = c .before .before in
+    let a = accepted r in
+    accepted-says _ _ (filled (a .before .before) .read .ensures) (a .read3 .given .1) (r .answer .ensures)
 
 pub reply-spec : {M : Type 1} → statement M
 reply-spec =

@@ -13,52 +13,71 @@ Inv-loop input at stop value₀ i₀ value i = Scanned input at stop value i
 abbrev μ-loop : tie.MeasureT-loop
 μ-loop input at stop value₀ i₀ value i = length input - i
 
-loop-holds : tie.Need-loop-holds Inv-loop μ-loop
+abbrev need : (tie.InvT-loop → tie.MeasureT-loop → Type 0) → Type 0
+need N = N Inv-loop μ-loop
+
+-- from a place of the code to the places around it
+abbrev turn : need tie.After-shared-slice-known → need tie.At-loop
+turn c = c .before .before
+
+abbrev other : need tie.Else4 → need tie.Else1
+other c = c .before .before
+
+loop-holds : need tie.Need-loop-holds
 loop-holds c = scanned-start
 
-shared-slice-read-byte : tie.Need-shared-slice-read-byte Inv-loop μ-loop
+shared-slice-read-byte : need tie.Need-shared-slice-read-byte
 shared-slice-read-byte c = search needs
 
-cast-t12 : tie.Need-cast-t12 Inv-loop μ-loop
+cast-t12 : need tie.Need-cast-t12
 cast-t12 c = search needs
 
-add-t13 : tie.Need-add-t13 Inv-loop μ-loop
+add-t13 : need tie.Need-add-t13
 add-t13 c = search needs
 
-returns : tie.Need-returns Inv-loop μ-loop
-returns c = scanned-stop (c .before .before .before .before .loop .inv) (search needs) (c .before .if1 .taken) (c .if2 .taken)
+returns : need tie.Need-returns
+returns c = let r = c .before .before in scanned-stop (turn r .loop .inv) (search needs) (c .before .if1 .taken) (c .if2 .taken)
 
-returns-2 : tie.Need-returns-2 Inv-loop μ-loop
-returns-2 c = scanned-empty (c .before .before .before .before .loop .inv) (search needs) (c .before .if1 .taken) (c .if2 .left)
+returns-2 : need tie.Need-returns-2
+returns-2 c = let r = c .before .before in scanned-empty (turn r .loop .inv) (search needs) (c .before .if1 .taken) (c .if2 .left)
 
-returns-3 : tie.Need-returns-3 Inv-loop μ-loop
-returns-3 c = scanned-low (c .before .before .before .before .loop .inv) (search needs) (c .before .if1 .left) (c .if3 .taken)
+returns-3 : need tie.Need-returns-3
+returns-3 c = let e = c .before in scanned-low (turn (e .before) .loop .inv) (search needs) (e .if1 .left) (c .if3 .taken)
 
-returns-4 : tie.Need-returns-4 Inv-loop μ-loop
-returns-4 c = scanned-high (c .before .before .before .before .before .loop .inv) (search needs) (c .before .before .if1 .left) (c .before .if3 .left) (c .if4 .taken)
+returns-4 : need tie.Need-returns-4
+returns-4 c =
+    let h = c .before in
+    let e = h .before in
+    scanned-high (turn (e .before) .loop .inv) (search needs) (e .if1 .left) (h .if3 .left) (c .if4 .taken)
 
-mul-value : tie.Need-mul-value Inv-loop μ-loop
-mul-value c = omega (arith, c .before .before .before .shared-slice-known .given (c .before .before .before .before .before .loop .i))
+mul-value : need tie.Need-mul-value
+mul-value c = let r = other c .before in omega (arith, r .shared-slice-known .given (turn r .loop .i))
 
-cast-value : tie.Need-cast-value Inv-loop μ-loop
-cast-value c = omega (arith, c .before .before .before .shared-slice-known .given (c .before .before .before .before .before .loop .i))
+cast-value : need tie.Need-cast-value
+cast-value c = let r = other c .before in omega (arith, r .shared-slice-known .given (turn r .loop .i))
 
-add-value : tie.Need-add-value Inv-loop μ-loop
-add-value c = omega (arith, c .before .before .before .shared-slice-known .given (c .before .before .before .before .before .loop .i))
+add-value : need tie.Need-add-value
+add-value c = let r = other c .before in omega (arith, r .shared-slice-known .given (turn r .loop .i))
 
-returns-5 : tie.Need-returns-5 Inv-loop μ-loop
-returns-5 c = scanned-large (c .before .before .before .before .before .before .loop .inv) (search needs) (c .before .before .before .if1 .left) (c .before .before .if3 .left) (c .before .if4 .left) (search needs)
+returns-5 : need tie.Need-returns-5
+returns-5 c =
+    let d = c .before in
+    let e = other d in
+    scanned-large (turn (e .before) .loop .inv) (search needs) (e .if1 .left) (d .before .if3 .left) (d .if4 .left) (search needs)
 
-add-i : tie.Need-add-i Inv-loop μ-loop
+add-i : need tie.Need-add-i
 add-i c = search needs
 
-loop-less : tie.Need-loop-less Inv-loop μ-loop
+loop-less : need tie.Need-loop-less
 loop-less c = search needs
 
-loop-again : tie.Need-loop-again Inv-loop μ-loop
-loop-again c = scanned-step (c .before .before .before .before .before .before .loop .inv) (search needs) (c .before .before .before .if1 .left) (c .before .before .if3 .left) (c .before .if4 .left) (search needs)
+loop-again : need tie.Need-loop-again
+loop-again c =
+    let d = c .before in
+    let e = other d in
+    scanned-step (turn (e .before) .loop .inv) (search needs) (e .if1 .left) (d .before .if3 .left) (d .if4 .left) (search needs)
 
-returns-6 : tie.Need-returns-6 Inv-loop μ-loop
+returns-6 : need tie.Need-returns-6
 returns-6 c = scanned-end (c .before .loop .inv) (search needs)
 
 pub number-at-spec : {M : Type 1} → statement M

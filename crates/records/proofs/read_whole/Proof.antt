@@ -1,17 +1,30 @@
 -- `records::read_whole` meets its contract: the head, the routes, and the rest.
 use borrow.Author.Needs.{needs}
-use Rattle.records.proofs.Records.{head-room, routes-room, rest-room, ended-rest, ended-edition, ended-head, ended-records}
+use Rattle.records.proofs.Records.{head-room, routes-room, rest-room, ended-rest, ended-head, ended-records}
 use Rattle.records.proofs.read_whole.Statement.{statement}
 use Rattle.records.proofs.read_whole.Tie as tie
 
-head-at-requires : tie.Need-head-at-requires
-head-at-requires c κs = search needs
+-- from a place of the code to the one before it
+abbrev entry : tie.After-read-head → tie.Start
+entry c = c .before .before .before .before .before .before .before
+
+abbrev headed : tie.Else1 → tie.After-read-head
+headed c = c .before .before
+
+abbrev asked : tie.After-read-routes-arg4 → tie.After-byte-in
+asked c = c .before .before .before .before
+
+abbrev routed : tie.After-read-rest-arg → tie.After-read-routes
+routed c = c .before .before .before .before .before .before .before .before .before
+
+abbrev ended : tie.After-slice-known10 → tie.After-read-rest
+ended c = c .before .before
+
+read-head-requires : tie.Need-read-head-requires
+read-head-requires c κs = search needs
 
 returns : tie.Need-returns
-returns c = ended-edition (c .before .before .before .before .before .before .before .before .args .f .now) (c .before .head-at .ensures) (c .if1 .taken)
-
-returns-2 : tie.Need-returns-2
-returns-2 c = ended-head (c .before .before .before .before .before .before .before .before .before .args .f .now) (c .before .before .head-at .ensures) (c .before .if1 .left) (c .if2 .taken)
+returns c = ended-head _ (c .before .before .read-head .ensures) (c .if1 .taken)
 
 sub-e : tie.Need-sub-e
 sub-e c = search needs
@@ -23,36 +36,47 @@ cast-k : tie.Need-cast-k
 cast-k c = search needs
 
 read-routes-requires : tie.Need-read-routes-requires
-read-routes-requires c κs = routes-room (head-room (c .before .before .before .before .before .before .before .before .before .before .before .before .before .before .pre) (c .before .before .before .before .before .before .before .head-at .ensures) (c .before .before .before .before .before .if2 .left)) (c .before .before .before .before .byte-in .ensures .is)
+read-routes-requires c κs =
+    let b = asked c in
+    let h = headed (b .before) in
+    routes-room (head-room _ (h .read-head .ensures) (entry h .pre) (b .before .if1 .left)) (b .byte-in .ensures .is)
 
 read-rest-requires : tie.Need-read-rest-requires
-read-rest-requires c κs = rest-room (head-room (c .before .before .before .before .before .before .before .before .before .before .before .before .before .before .before .before .before .before .before .before .before .before .before .before .pre) (c .before .before .before .before .before .before .before .before .before .before .before .before .before .before .before .before .before .head-at .ensures) (c .before .before .before .before .before .before .before .before .before .before .before .before .before .before .before .if2 .left)) (c .before .before .before .before .before .before .before .before .before .before .before .before .before .before .byte-in .ensures .is) (c .before .before .before .before .before .before .before .before .before .read-routes .ensures)
+read-rest-requires c κs =
+    let r = routed c in
+    let b = asked (r .before) in
+    let h = headed (b .before) in
+    rest-room (head-room _ (h .read-head .ensures) (entry h .pre) (b .before .if1 .left)) (b .byte-in .ensures .is) (r .read-routes .ensures)
 
 same-length : tie.Need-same-length
-same-length c = c .before .before .before .before .before .before .before .before .before .before .before .before .read-routes .kept .1 .1 .1 .0
+same-length c = routed (ended c .before) .read-routes .kept .1 .1 .1 .0
 
 same-length-2 : tie.Need-same-length-2
-same-length-2 c = c .before .before .before .before .before .before .before .before .before .before .before .before .read-routes .kept .1 .1 .1 .1 .0
+same-length-2 c = routed (ended c .before) .read-routes .kept .1 .1 .1 .1 .0
 
 same-length-3 : tie.Need-same-length-3
-same-length-3 c = c .before .before .before .before .before .before .before .before .before .before .before .before .read-routes .kept .1 .1 .1 .1 .1 .0
+same-length-3 c = routed (ended c .before) .read-routes .kept .1 .1 .1 .1 .1 .0
 
 same-length-4 : tie.Need-same-length-4
-same-length-4 c = c .before .before .before .before .before .before .before .before .before .before .before .before .read-routes .kept .1 .1 .1 .1 .1 .1 .0
+same-length-4 c = routed (ended c .before) .read-routes .kept .1 .1 .1 .1 .1 .1 .0
 
 same-length-5 : tie.Need-same-length-5
-same-length-5 c = c .before .before .read-rest .kept .1 .1 .1 .1 .0
+same-length-5 c = ended c .read-rest .kept .1 .1 .1 .1 .0
 
-returns-3 : tie.Need-returns-3
-returns-3 c = ended-records (c .before .before .before .before .before .before .before .before .before .before .before .before .before .before .before .before .before .before .before .before .before .before .before .before .before .before .before .args .f .now) (c .before .before .before .before .before .before .before .before .before .before .before .before .before .before .before .before .before .before .before .before .head-at .ensures) (c .before .before .before .before .before .before .before .before .before .before .before .before .before .before .before .before .before .before .if2 .left) (ended-rest (head-room (c .before .before .before .before .before .before .before .before .before .before .before .before .before .before .before .before .before .before .before .before .before .before .before .before .before .before .before .pre) (c .before .before .before .before .before .before .before .before .before .before .before .before .before .before .before .before .before .before .before .before .head-at .ensures) (c .before .before .before .before .before .before .before .before .before .before .before .before .before .before .before .before .before .before .if2 .left)) (c .before .before .before .before .before .before .before .before .before .before .before .before .before .before .before .before .before .byte-in .ensures .is) (c .before .before .before .before .before .before .before .before .before .before .before .before .read-routes .ensures) (c .before .before .read-rest .ensures))
+returns-2 : tie.Need-returns-2
+returns-2 c =
+    let r = routed (ended c .before) in
+    let b = asked (r .before) in
+    let h = headed (b .before) in
+    ended-records _ (h .read-head .ensures) (b .before .if1 .left)
+    (ended-rest (head-room _ (h .read-head .ensures) (entry h .pre) (b .before .if1 .left)) (b .byte-in .ensures .is) (r .read-routes .ensures) (ended c .read-rest .ensures))
 
 pub read-whole-spec : {M : Type 1} → statement M
 read-whole-spec =
     tie.close
     (tie.spec
-    head-at-requires
+    read-head-requires
     returns
-    returns-2
     sub-e
     byte-in-requires
     cast-k
@@ -63,4 +87,4 @@ read-whole-spec =
     same-length-3
     same-length-4
     same-length-5
-    returns-3)
+    returns-2)

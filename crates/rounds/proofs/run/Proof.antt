@@ -22,11 +22,14 @@ abbrev need : (tie.InvT-loop → tie.MeasureT-loop → Type 0) → Type 0
 need N = N Inv-loop μ-loop
 
 -- from a place of the code to the places around it: an added statement changes one of these lines
-abbrev start : need tie.After-struct-known → need tie.Start
-start c = c .before .before .before .before .before .before .before .before .before .before .before
+abbrev begun : need tie.After-fill-arg → need tie.Start
+begun c = c .before .before .before .before .before .before .before
 
 abbrev cleared : need tie.After-struct-known → need tie.After-fill
 cleared c = c .before .before .before
+
+abbrev start : need tie.After-struct-known → need tie.Start
+start c = begun (cleared c .before)
 
 abbrev entry : need tie.At-loop → need tie.Start
 entry l = start (l .before)
@@ -59,7 +62,7 @@ running :
 running l = since-entry _ _ _ (entry l .pre) (cleared (l .before) .fill .ensures) (l .loop .inv)
 
 fill-requires : need tie.Need-fill-requires
-fill-requires c κs = c .before .before .before .before .before .before .before .pre .room
+fill-requires c κs = begun c .pre .room
 
 cast-start : need tie.Need-cast-start
 cast-start c = search needs

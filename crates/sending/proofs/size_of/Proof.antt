@@ -14,53 +14,65 @@ Inv-loop routes count walks size₀ r₀ size r = Sizing (ofRoutes routes [] [] 
 abbrev μ-loop : tie.MeasureT-loop
 μ-loop routes count walks size₀ r₀ size r = count - r
 
-loop-holds : tie.Need-loop-holds Inv-loop μ-loop
+abbrev need : (tie.InvT-loop → tie.MeasureT-loop → Type 0) → Type 0
+need N = N Inv-loop μ-loop
+
+-- from a place of the code to the places before it: an added statement changes one of these lines
+abbrev entry : need tie.At-loop → need tie.Start
+entry l = l .before .before
+
+abbrev turn : need tie.After-shared-slice-known3 → need tie.At-loop
+turn c = c .before .before .before
+
+loop-holds : need tie.Need-loop-holds
 loop-holds c = sizing-start (ofRoutes (c .before .args .routes .now) [] [] []) (c .before .args .count)
 
-mul-route-size : tie.Need-mul-route-size Inv-loop μ-loop
+mul-route-size : need tie.Need-mul-route-size
 mul-route-size c = search needs
 
-mul-route-size-2 : tie.Need-mul-route-size-2 Inv-loop μ-loop
+mul-route-size-2 : need tie.Need-mul-route-size-2
 mul-route-size-2 c = search needs
 
-shared-slice-read-route-size : tie.Need-shared-slice-read-route-size Inv-loop μ-loop
+shared-slice-read-route-size : need tie.Need-shared-slice-read-route-size
 shared-slice-read-route-size c = search needs
 
-mul-route-size-3 : tie.Need-mul-route-size-3 Inv-loop μ-loop
+mul-route-size-3 : need tie.Need-mul-route-size-3
 mul-route-size-3 c = search needs
 
-add-route-size : tie.Need-add-route-size Inv-loop μ-loop
+add-route-size : need tie.Need-add-route-size
 add-route-size c = search needs
 
-mul-route-size-4 : tie.Need-mul-route-size-4 Inv-loop μ-loop
+mul-route-size-4 : need tie.Need-mul-route-size-4
 mul-route-size-4 c = search needs
 
-shared-slice-read-route-size-2 : tie.Need-shared-slice-read-route-size-2 Inv-loop μ-loop
+shared-slice-read-route-size-2 : need tie.Need-shared-slice-read-route-size-2
 shared-slice-read-route-size-2 c = search needs
 
-route-size-requires : tie.Need-route-size-requires Inv-loop μ-loop
-route-size-requires c κs = c .before .before .before .before .before .pre .route (c .before .before .before .loop .r) (search needs)
+route-size-requires : need tie.Need-route-size-requires
+route-size-requires c κs = let l = turn c in entry l .pre .route (l .loop .r) (search needs)
 
-add-size : tie.Need-add-size Inv-loop μ-loop
-add-size c = omega (arith, c .before .before .before .before .loop .inv, route-small _ _ (c .before .before .before .before .before .before .pre .route (c .before .before .before .before .loop .r) (search needs)), c .route-size .ensures, c .before .before .before .before .before .before .pre .routes≤)
+add-size : need tie.Need-add-size
+add-size c =
+    let l = turn (c .before) in
+    omega (arith, l .loop .inv, route-small _ _ (entry l .pre .route (l .loop .r) (search needs)), c .route-size .ensures, entry l .pre .routes≤)
 
-add-r : tie.Need-add-r Inv-loop μ-loop
+add-r : need tie.Need-add-r
 add-r c = search needs
 
-loop-less : tie.Need-loop-less Inv-loop μ-loop
+loop-less : need tie.Need-loop-less
 loop-less c = search needs
 
-loop-again : tie.Need-loop-again Inv-loop μ-loop
-loop-again c = sizing-step (c .before .before .before .before .before .before .pre) (c .before .before .before .before .loop .inv) (search needs) (c .route-size .ensures)
+loop-again : need tie.Need-loop-again
+loop-again c = let l = turn (c .before) in sizing-step (entry l .pre) (l .loop .inv) (search needs) (c .route-size .ensures)
 
-mul-result : tie.Need-mul-result Inv-loop μ-loop
-mul-result c = omega (arith, c .before .before .before .pre .walks≤)
+mul-result : need tie.Need-mul-result
+mul-result c = omega (arith, entry (c .before) .pre .walks≤)
 
-add-result : tie.Need-add-result Inv-loop μ-loop
-add-result c = omega (arith, c .before .loop .inv, c .before .before .before .pre .walks≤, c .before .before .before .pre .routes≤)
+add-result : need tie.Need-add-result
+add-result c = let l = c .before in omega (arith, l .loop .inv, entry l .pre .walks≤, entry l .pre .routes≤)
 
-returns : tie.Need-returns Inv-loop μ-loop
-returns c = sizing-end (c .before .before .before .args .walks) (c .before .loop .inv) (search needs)
+returns : need tie.Need-returns
+returns c = let l = c .before in sizing-end (entry l .args .walks) (l .loop .inv) (search needs)
 
 pub size-of-spec : {M : Type 1} → statement M
 size-of-spec =

@@ -4,6 +4,13 @@ use borrow.Author.Needs.{needs}
 use Rattle.steps.proofs.boards.Statement.{statement}
 use Rattle.steps.proofs.boards.Tie as tie
 
+-- from a place of the code to the places around it: an added statement changes one of these lines
+abbrev start : tie.After-shared-slice-known2 → tie.Start
+start c = c .before .before .before
+
+abbrev reached : tie.After-shared-slice-known3 → tie.Else1
+reached c = c .before .before .before
+
 add-at : tie.Need-add-at
 add-at c = search needs
 
@@ -23,7 +30,7 @@ shared-slice-read-here-2 : tie.Need-shared-slice-read-here-2
 shared-slice-read-here-2 c = search needs
 
 returns : tie.Need-returns
-returns c = boards-unreached _ _ _ _ _ _ (c .before .before .before .before .pre) (c .if1 .taken)
+returns c = boards-unreached _ _ _ _ _ _ (start (c .before) .pre) (c .if1 .taken)
 
 cast-event : tie.Need-cast-event
 cast-event c = search needs
@@ -44,7 +51,7 @@ shared-slice-read-result : tie.Need-shared-slice-read-result
 shared-slice-read-result c = search needs
 
 returns-2 : tie.Need-returns-2
-returns-2 c = boards-reached _ _ _ _ _ _ (c .before .before .before .before .before .before .before .pre) (c .before .before .before .if1 .left)
+returns-2 c = let e = reached c in boards-reached _ _ _ _ _ _ (start (e .before) .pre) (e .if1 .left)
 
 pub boards-spec : {M : Type 1} → statement M
 boards-spec =

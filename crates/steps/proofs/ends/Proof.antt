@@ -6,6 +6,10 @@ use borrow.Author.Needs.{needs}
 use Rattle.steps.proofs.ends.Statement.{statement}
 use Rattle.steps.proofs.ends.Tie as tie
 
+-- from where the arrival is read to the start
+abbrev start : tie.After-shared-slice-known2 → tie.Start
+start c = c .before .before .before .before .before .before
+
 add-at : tie.Need-add-at
 add-at c = search needs
 
@@ -34,10 +38,10 @@ shared-slice-read-time : tie.Need-shared-slice-read-time
 shared-slice-read-time c = search needs
 
 cast-result : tie.Need-cast-result
-cast-result c = omega (arith, c .shared-slice-known2 .given (c .before .before .before .before .before .before .args .route .event + (c .before .before .before .before .before .before .args .j * c .before .before .before .before .before .before .args .route .n + c .before .before .before .before .before .before .args .l)))
+cast-result c = let a = start c .args in omega (arith, c .shared-slice-known2 .given (a .route .event + (a .j * a .route .n + a .l)))
 
 add-result : tie.Need-add-result
-add-result c = omega (arith, c .shared-slice-known2 .given (c .before .before .before .before .before .before .args .route .event + (c .before .before .before .before .before .before .args .j * c .before .before .before .before .before .before .args .route .n + c .before .before .before .before .before .before .args .l)))
+add-result c = let a = start c .args in omega (arith, c .shared-slice-known2 .given (a .route .event + (a .j * a .route .n + a .l)))
 
 returns : tie.Need-returns
 returns c = ends-there _ _ _ _ _ _ _ _ (c .before .before .before .if1 .taken)

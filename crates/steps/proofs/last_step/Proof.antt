@@ -85,8 +85,14 @@ told c = c .before .before .before
 abbrev asked : need tie.After-stop → need tie.Else1
 asked c = c .before .before .before .before
 
+abbrev entry : need tie.After-shared-slice-known7 → need tie.Start
+entry c = c .before .before .before .before .before .before .before
+
+abbrev begun : need tie.At-search → need tie.Start
+begun c = entry (c .before .before)
+
 abbrev start : need tie.In-loop → need tie.Start
-start c = asked (told c) .before .before .before .before .before .before .before .before .before .before .before
+start c = begun (asked (told c) .before .before)
 
 -- what is known of a route, where it has been found in the tables
 module _ (c : need tie.After-extent-of) where
@@ -101,7 +107,7 @@ abbrev left-at : (c : need tie.In-loop3) → c .before .loop3 .l < looked (ridin
 left-at c = le-trans (c .loop3-test .taken) (past-in _ _ _ (visited (riding c) .past-visit .ensures))
 
 seconds-to-requires : need tie.Need-seconds-to-requires
-seconds-to-requires c κs = walks-in _ (c .before .before .before .before .before .before .before .pre .fit)
+seconds-to-requires c κs = walks-in _ (entry c .pre .fit)
 
 search-holds : need tie.Need-search-holds
 search-holds c = (search needs, nothing-start _)
@@ -212,19 +218,20 @@ search-less : need tie.Need-search-less
 search-less c = search needs
 
 search-again : need tie.Need-search-again
-search-again c = (
-  omega (arith, c .before .before .before .if1 .left),
-  nothing-more _ _ (c .before .before .before .before .before .search .inv .1)
-      (⊎-elim
-      (λ w. way-none _ _ _ _ _ _ _ (c .before .way-to .ensures) _ _ _ _ (w .1 .given .1) (le-antisymm (w .3 .inv .0) (w .4 .left)) (w .3 .inv .1))
-      (λ w. way-miss _ _ _ _ _ _ _ (c .before .way-to .ensures) (w .1 .given .1))
-      (c .match .came)),
-)
+search-again c =
+    let a = c .before .before .before in
+    let more = nothing-more _ _ (a .before .before .search .inv .1) in (
+      omega (arith, a .if1 .left),
+      ⊎-elim
+          (λ w. more (way-none _ _ _ _ _ _ _ (c .before .way-to .ensures) _ _ _ _ (w .1 .given .1) (le-antisymm (w .3 .inv .0) (w .4 .left)) (w .3 .inv .1)))
+          (λ w. more (way-miss _ _ _ _ _ _ _ (c .before .way-to .ensures) (w .1 .given .1)))
+          (c .match .came),
+    )
 
 returns : need tie.Need-returns
 returns c =
     let s = c .before .before in
-    sym (ap foundOf (step-none _ _ _ (s .before .before .before .before .before .before .before .before .before .pre) _ _ (s .before .seconds-to .ensures) _ (s .search .inv .0) (c .if1 .taken) (s .search .inv .1)))
+    sym (ap foundOf (step-none _ _ _ (begun s .pre) _ _ (s .before .seconds-to .ensures) _ (s .search .inv .0) (c .if1 .taken) (s .search .inv .1)))
 
 returns-2 : need tie.Need-returns-2
 returns-2 c =

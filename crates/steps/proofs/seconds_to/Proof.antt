@@ -1,7 +1,9 @@
 -- `steps::seconds_to` meets its contract. The loop keeps the seconds by the walks below w; there is one walk at most between two stops.
-use Prim.Native.Nat.{_≤_, _-_}
+use Prim.Native.Nat.{_*_, _≤_, _<_, _-_}
 use mathlib.Core.Path.{_≡_, _∙_}
 use mathlib.Core.Logic.{⊎-elim}
+use denote.Ref.{now}
+use lib.ListN.{getD}
 use Rattle.laws.specs.Lists.{tab}
 use Rattle.steps.specs.Search.{secondsBelow}
 use Rattle.steps.proofs.Seconds.{seconds-start, seconds-keep, seconds-store, seconds-end}
@@ -16,64 +18,77 @@ Inv-loop walks count p seconds₀ w₀ seconds w = (w ≤ count) × (seconds ≡
 abbrev μ-loop : tie.MeasureT-loop
 μ-loop walks count p seconds₀ w₀ seconds w = count - w
 
-loop-holds : tie.Need-loop-holds Inv-loop μ-loop
+abbrev need : (tie.InvT-loop → tie.MeasureT-loop → Type 0) → Type 0
+need N = N Inv-loop μ-loop
+
+-- from where a walk's seconds are stored to the turn that it is in
+abbrev stored : need tie.After-shared-slice-known3 → need tie.In-loop
+stored c = c .before .before .before .before
+
+-- a walk comes from a stop
+from-in : (t : need tie.In-loop) → getD (now (t .before .before .args .walks)) (t .before .loop .w * 3) 0 < 256
+from-in t = t .before .before .pre .from< _ (t .loop-test .taken)
+
+loop-holds : need tie.Need-loop-holds
 loop-holds c = (search needs, seconds-start _ _)
 
-cast-at : tie.Need-cast-at Inv-loop μ-loop
+cast-at : need tie.Need-cast-at
 cast-at c = search needs
 
-mul-at : tie.Need-mul-at Inv-loop μ-loop
+mul-at : need tie.Need-mul-at
 mul-at c = search needs
 
-add-if1 : tie.Need-add-if1 Inv-loop μ-loop
+add-if1 : need tie.Need-add-if1
 add-if1 c = search needs
 
-mul-if1 : tie.Need-mul-if1 Inv-loop μ-loop
+mul-if1 : need tie.Need-mul-if1
 mul-if1 c = search needs
 
-shared-slice-read-if1 : tie.Need-shared-slice-read-if1 Inv-loop μ-loop
+shared-slice-read-if1 : need tie.Need-shared-slice-read-if1
 shared-slice-read-if1 c = search needs
 
-add-seconds : tie.Need-add-seconds Inv-loop μ-loop
+add-seconds : need tie.Need-add-seconds
 add-seconds c = search needs
 
-mul-seconds : tie.Need-mul-seconds Inv-loop μ-loop
+mul-seconds : need tie.Need-mul-seconds
 mul-seconds c = search needs
 
-shared-slice-read-seconds : tie.Need-shared-slice-read-seconds Inv-loop μ-loop
+shared-slice-read-seconds : need tie.Need-shared-slice-read-seconds
 shared-slice-read-seconds c = search needs
 
-mul-seconds-2 : tie.Need-mul-seconds-2 Inv-loop μ-loop
+mul-seconds-2 : need tie.Need-mul-seconds-2
 mul-seconds-2 c = search needs
 
-shared-slice-read-seconds-2 : tie.Need-shared-slice-read-seconds-2 Inv-loop μ-loop
+shared-slice-read-seconds-2 : need tie.Need-shared-slice-read-seconds-2
 shared-slice-read-seconds-2 c = search needs
 
-cast-seconds : tie.Need-cast-seconds Inv-loop μ-loop
-cast-seconds c = omega (arith, c .before .before .before .before .before .before .pre .from< (c .before .before .before .before .before .loop .w) (c .before .before .before .before .loop-test .taken))
+cast-seconds : need tie.Need-cast-seconds
+cast-seconds c = omega (arith, from-in (stored c))
 
-mul-seconds-3 : tie.Need-mul-seconds-3 Inv-loop μ-loop
-mul-seconds-3 c = omega (arith, c .before .before .before .before .before .before .pre .from< (c .before .before .before .before .before .loop .w) (c .before .before .before .before .loop-test .taken))
+mul-seconds-3 : need tie.Need-mul-seconds-3
+mul-seconds-3 c = omega (arith, from-in (stored c))
 
-array-write-seconds : tie.Need-array-write-seconds Inv-loop μ-loop
-array-write-seconds c = omega (arith, c .before .before .before .before .before .before .pre .from< (c .before .before .before .before .before .loop .w) (c .before .before .before .before .loop-test .taken))
+array-write-seconds : need tie.Need-array-write-seconds
+array-write-seconds c = omega (arith, from-in (stored c))
 
-add-w : tie.Need-add-w Inv-loop μ-loop
+add-w : need tie.Need-add-w
 add-w c = search needs
 
-loop-less : tie.Need-loop-less Inv-loop μ-loop
+loop-less : need tie.Need-loop-less
 loop-less c = search needs
 
-loop-again : tie.Need-loop-again Inv-loop μ-loop
-loop-again c = (
-  search needs,
-  ⊎-elim
-      (λ w. w .3 ∙ seconds-store _ _ _ _ (c .before .before .before .before .pre) (c .before .before .loop-test .taken) (c .before .before .before .loop .inv .1) (w .0 .taken))
-      (λ w. w .1 ∙ seconds-keep _ _ _ _ (c .before .before .before .before .pre) (c .before .before .loop-test .taken) (c .before .before .before .loop .inv .1) (w .0 .left))
-      (c .if1 .came),
-)
+loop-again : need tie.Need-loop-again
+loop-again c =
+    let t = c .before .before in
+    let l = t .before in (
+      search needs,
+      ⊎-elim
+          (λ w. w .3 ∙ seconds-store _ _ _ _ (l .before .pre) (t .loop-test .taken) (l .loop .inv .1) (w .0 .taken))
+          (λ w. w .1 ∙ seconds-keep _ _ _ _ (l .before .pre) (t .loop-test .taken) (l .loop .inv .1) (w .0 .left))
+          (c .if1 .came),
+    )
 
-returns : tie.Need-returns Inv-loop μ-loop
+returns : need tie.Need-returns
 returns c = seconds-end _ _ _ _ (omega arith) (c .before .loop .inv .1)
 
 pub seconds-to-spec : {M : Type 1} → statement M

@@ -4,6 +4,10 @@ use borrow.Author.Needs.{needs}
 use Rattle.steps.proofs.way_to.Statement.{statement}
 use Rattle.steps.proofs.way_to.Tie as tie
 
+-- from where a walk is found to where the way is one that walks
+abbrev walks : tie.Else2 → tie.Else1
+walks c = c .before .before
+
 returns : tie.Need-returns
 returns c = way-stays _ _ _ _ _ (c .if1 .taken)
 
@@ -23,7 +27,7 @@ returns-2 : tie.Need-returns-2
 returns-2 c = way-shut _ _ _ _ _ (c .before .before .if1 .left) (c .if2 .taken)
 
 returns-3 : tie.Need-returns-3
-returns-3 c = way-long _ _ _ _ _ (c .before .before .before .if1 .left) (c .before .if2 .left) (c .if3 .taken)
+returns-3 c = way-long _ _ _ _ _ (walks (c .before) .if1 .left) (c .before .if2 .left) (c .if3 .taken)
 
 cast-if4 : tie.Need-cast-if4
 cast-if4 c = search needs
@@ -35,10 +39,10 @@ shared-slice-read-if4 : tie.Need-shared-slice-read-if4
 shared-slice-read-if4 c = search needs
 
 returns-4 : tie.Need-returns-4
-returns-4 c = way-late _ _ _ _ _ (c .before .before .before .before .before .if1 .left) (c .before .before .before .if2 .left) (c .before .before .if3 .left) (c .if4 .taken)
+returns-4 c = let e = c .before .before in way-late _ _ _ _ _ (walks (e .before) .if1 .left) (e .before .if2 .left) (e .if3 .left) (c .if4 .taken)
 
 returns-5 : tie.Need-returns-5
-returns-5 c = way-open _ _ _ _ _ (c .before .before .before .before .before .if1 .left) (c .before .before .before .if2 .left) (c .before .before .if3 .left) (c .if4 .left)
+returns-5 c = let e = c .before .before in way-open _ _ _ _ _ (walks (e .before) .if1 .left) (e .before .if2 .left) (e .if3 .left) (c .if4 .left)
 
 pub way-to-spec : {M : Type 1} → statement M
 way-to-spec =

@@ -2,6 +2,7 @@
 use mathlib.Core.Path.{sym, _∙_}
 use Prim.Native.Nat.{_≤_, _-_}
 use native.Mathlib.Omega.{arith}
+use borrow.Author.Count.{falls}
 use Rattle.laws.proofs.Found.{Nothing, nothing-start}
 use Rattle.trips.proofs.Routes.{broken, lies-of, route-found, route-more, route-none}
 use borrow.Author.Needs.{needs}
@@ -16,34 +17,58 @@ abbrev μ-loop : tie.MeasureT-loop
 μ-loop overtaking count routes arrivals departures r₀ r =
     count - r
 
-loop-holds : tie.Need-loop-holds Inv-loop μ-loop
+abbrev need : (tie.InvT-loop → tie.MeasureT-loop → Type 0) → Type 0
+need N = N Inv-loop μ-loop
+
+-- from a place of the code to the places around it: an added statement changes one of these lines
+abbrev start : need tie.In-loop → need tie.Start
+start c = c .before .before .before .before .before
+
+abbrev found : need tie.After-known-told → need tie.After-broken-at
+found c = c .before .before .before
+
+abbrev passed : need tie.After-enum-told → need tie.After-broken-at
+passed c = c .before .before
+
+abbrev turn : need tie.After-broken-at → need tie.In-loop
+turn c = c .before .before
+
+loop-holds : need tie.Need-loop-holds
 loop-holds c = (omega arith, nothing-start _)
 
-extent-of-requires : tie.Need-extent-of-requires Inv-loop μ-loop
-extent-of-requires c κs = omega (arith, c .loop-test .taken, c .before .before .before .before .before .pre .laid .routes≤, c .before .before .before .before .before .pre .laid .long)
+extent-of-requires : need tie.Need-extent-of-requires
+extent-of-requires c κs = let h = start c .pre .laid in omega (arith, c .loop-test .taken, h .routes≤, h .long)
 
-broken-at-requires : tie.Need-broken-at-requires Inv-loop μ-loop
-broken-at-requires c κs = lies-of _ _ _ _ _ (c .before .before .before .before .before .before .pre) (c .before .loop-test .taken) (c .extent-of .ensures)
+broken-at-requires : need tie.Need-broken-at-requires
+broken-at-requires c κs = lies-of _ _ _ _ _ (start (c .before) .pre) (c .before .loop-test .taken) (c .extent-of .ensures)
 
-enum-known-p : tie.Need-enum-known-p Inv-loop μ-loop
+enum-known-p : need tie.Need-enum-known-p
 enum-known-p c = search needs
 
-returns : tie.Need-returns Inv-loop μ-loop
-returns c = route-found _ _ _ _ _ _ (c .before .before .before .before .extent-of .ensures) (c .before .before .before .before .before .loop-test .taken) (c .before .before .before .before .before .before .loop .inv .1) (sym (c .before .p .given .1) ∙ c .before .before .before .broken-at .ensures)
+returns : need tie.Need-returns
+returns c =
+    let a = found c in
+    let t = turn a in
+    route-found _ _ _ _ _ _ (a .before .extent-of .ensures) (t .loop-test .taken) (t .before .loop .inv .1) (sym (c .before .p .given .1) ∙ a .broken-at .ensures)
 
-enum-told : tie.Need-enum-told Inv-loop μ-loop
+enum-told : need tie.Need-enum-told
 enum-told c = search needs
 
-add-r : tie.Need-add-r Inv-loop μ-loop
-add-r c = search needs
+add-r : need tie.Need-add-r
+add-r c = let t = turn (passed c) in omega (arith, t .loop-test .taken, start t .pre .laid .routes≤)
 
-loop-less : tie.Need-loop-less Inv-loop μ-loop
-loop-less c = search needs
+loop-less : need tie.Need-loop-less
+loop-less c = falls _ _ (turn (passed c) .loop-test .taken)
 
-loop-again : tie.Need-loop-again Inv-loop μ-loop
-loop-again c = (omega (arith, c .before .before .before .before .loop-test .taken), route-more (c .before .before .before .before .before .before .before .before .before .args .routes .now) _ _ _ _ (c .before .before .before .extent-of .ensures) (c .before .before .before .before .before .loop .inv .1) (sym (c .enum-told .given .1) ∙ c .before .before .broken-at .ensures))
+loop-again : need tie.Need-loop-again
+loop-again c =
+    let a = passed c in
+    let t = turn a in (
+      omega (arith, t .loop-test .taken),
+      route-more (start t .args .routes .now) _ _ _ _ (a .before .extent-of .ensures) (t .before .loop .inv .1) (sym (c .enum-told .given .1) ∙ a .broken-at .ensures),
+    )
 
-returns-2 : tie.Need-returns-2 Inv-loop μ-loop
+returns-2 : need tie.Need-returns-2
 returns-2 c = route-none _ _ _ _ _ _ (c .loop-test .left) (c .before .loop .inv .0) (c .before .loop .inv .1)
 
 pub lowest-event-spec : {M : Type 1} → statement M

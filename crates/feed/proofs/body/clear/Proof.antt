@@ -34,7 +34,13 @@ same-length-5 : tie.Need-same-length-5
 same-length-5 c = search needs
 
 returns : tie.Need-returns
-returns c = record { routes = c .before .before .before .before .before .before .before .before .before .before .before .before .before .before .before .before .before .before .zero .ensures; positions = c .before .before .before .before .before .before .before .before .before .before .before .before .before .before .zero2 .ensures; arrivals = c .before .before .before .before .before .before .before .before .before .before .zero3 .ensures; departures = c .before .before .before .before .before .before .zero4 .ensures; walks = c .before .before .zero5 .ensures }
+returns c =
+    let g = c .before .before in
+    let d = g .before .before .before .before in
+    let a = d .before .before .before .before in
+    let p = a .before .before .before .before in
+    let h = p .before .before .before .before in
+    record { routes = h .zero .ensures; positions = p .zero2 .ensures; arrivals = a .zero3 .ensures; departures = d .zero4 .ensures; walks = g .zero5 .ensures }
 
 pub clear-spec : {M : Type 1} → statement M
 clear-spec =

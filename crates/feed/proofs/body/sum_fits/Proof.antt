@@ -1,13 +1,18 @@
 -- `feed::body::sum_fits` meets its contract: the sum of all but the last two bytes.
 use borrow.Author.Needs.{needs}
 use mathlib.Core.Path.{sym}
-use Prim.Native.Nat.{_-_}
+use mathlib.Core.List.{List}
+use Prim.Native.Nat.{ℕ, _-_}
 use native.Mathlib.Omega.{arith}
 use lib.ListN.{length}
 use lib.Seq.{length-take-le}
 use Rattle.feed.proofs.Top.{from-start, sum-first, sum-not}
 use Rattle.feed.proofs.body.sum_fits.Statement.{statement}
 use Rattle.feed.proofs.body.sum_fits.Tie as tie
+
+-- the feed, where its sum is known
+abbrev feed : tie.After-fletcher → List ℕ
+feed c = c .before .before .before .args .f .now
 
 sub-fletcher : tie.Need-sub-fletcher
 sub-fletcher c = search needs
@@ -31,10 +36,19 @@ byte-in-requires-2 : tie.Need-byte-in-requires-2
 byte-in-requires-2 c κs = search needs
 
 returns : tie.Need-returns
-returns c = sum-first (c .before .before .before .before .before .before .args .f .now) (from-start (c .before .before .before .before .before .before .args .f .now) (length (c .before .before .before .before .before .before .args .f .now) - 2) (c .before .before .byte-in .ensures .is)) (c .before .before .before .fletcher .ensures .is) (c .before .if1 .taken) (from-start (c .before .before .before .before .before .before .args .f .now) (length (c .before .before .before .before .before .before .args .f .now) - 1) (c .byte-in2 .ensures .is))
+returns c =
+    let b = c .before .before in
+    let s = b .before in
+    let f = feed s in
+    sum-first f (from-start f (length f - 2) (b .byte-in .ensures .is)) (s .fletcher .ensures .is) (c .before .if1 .taken)
+    (from-start f (length f - 1) (c .byte-in2 .ensures .is))
 
 returns-2 : tie.Need-returns-2
-returns-2 c = sum-not (c .before .before .before .before .before .args .f .now) (from-start (c .before .before .before .before .before .args .f .now) (length (c .before .before .before .before .before .args .f .now) - 2) (c .before .byte-in .ensures .is)) (c .before .before .fletcher .ensures .is) (c .if1 .left)
+returns-2 c =
+    let b = c .before in
+    let s = b .before in
+    let f = feed s in
+    sum-not f (from-start f (length f - 2) (b .byte-in .ensures .is)) (s .fletcher .ensures .is) (c .if1 .left)
 
 pub sum-fits-spec : {M : Type 1} → statement M
 sum-fits-spec =

@@ -15,13 +15,13 @@ slice-relend-prefix-run : tie.Need-slice-relend-prefix-run
 slice-relend-prefix-run c = search needs
 
 slice-aggregate-run : tie.Need-slice-aggregate-run
-slice-aggregate-run c = sym (length-take-le _ (c .before .before .before .before .before .before .before .args .feed .now) (search needs))
+slice-aggregate-run c = sym (length-take-le _ _ (search needs))
 
 slice-relend-prefix-run-2 : tie.Need-slice-relend-prefix-run-2
 slice-relend-prefix-run-2 c = search needs
 
 slice-aggregate-run-2 : tie.Need-slice-aggregate-run-2
-slice-aggregate-run-2 c = sym (length-take-le _ (c .before .before .before .before .before .before .before .before .args .out .now) (search needs))
+slice-aggregate-run-2 c = sym (length-take-le _ _ (search needs))
 
 run-requires : tie.Need-run-requires
 run-requires c κs = search needs

@@ -18,23 +18,14 @@ loop-holds c = search needs
 damaged-requires : tie.Need-damaged-requires Inv-loop μ-loop
 damaged-requires c κs = search needs
 
+slice-aggregate-count : tie.Need-slice-aggregate-count Inv-loop μ-loop
+slice-aggregate-count c = search needs
+
 number-of-requires : tie.Need-number-of-requires Inv-loop μ-loop
 number-of-requires c κs = search needs
 
-slice-aggregate-get : tie.Need-slice-aggregate-get Inv-loop μ-loop
-slice-aggregate-get c = search needs
-
-get-requires : tie.Need-get-requires Inv-loop μ-loop
-get-requires c κs = search needs
-
-slice-aggregate-put : tie.Need-slice-aggregate-put Inv-loop μ-loop
-slice-aggregate-put c = search needs
-
-plus-requires : tie.Need-plus-requires Inv-loop μ-loop
-plus-requires c κs = search needs
-
-put-requires : tie.Need-put-requires Inv-loop μ-loop
-put-requires c κs = search needs
+count-requires : tie.Need-count-requires Inv-loop μ-loop
+count-requires c κs = search needs
 
 add-i : tie.Need-add-i Inv-loop μ-loop
 add-i c = search needs
@@ -77,12 +68,9 @@ damages-of-spec =
     μ-loop
     loop-holds
     damaged-requires
+    slice-aggregate-count
     number-of-requires
-    slice-aggregate-get
-    get-requires
-    slice-aggregate-put
-    plus-requires
-    put-requires
+    count-requires
     add-i
     loop-less
     loop-again

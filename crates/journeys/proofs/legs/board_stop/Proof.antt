@@ -1,12 +1,23 @@
 -- `journeys::legs::board_stop` meets its contract, by what `extent_of` says.
 use mathlib.Core.Path.{ap}
-use Prim.Native.Nat.{_+_}
-use lib.ListN.{getD}
+use Prim.Native.Nat.{_+_, _<_}
+use lib.ListN.{length, getD}
 use native.Mathlib.Omega.{arith}
 use Rattle.extents.specs.declared.Extent.{Extent}
 use borrow.Author.Needs.{needs}
 use Rattle.journeys.proofs.legs.board_stop.Statement.{statement}
 use Rattle.journeys.proofs.legs.board_stop.Tie as tie
+
+-- from a place of the code to the places around it: an added statement changes one of these lines
+abbrev start : tie.After-extent-of → tie.Start
+start c = c .before .before .before
+
+abbrev there : tie.After-struct-known2 → tie.After-extent-of
+there c = c .before .before
+
+-- the boarding position stands in table 2
+inside : (c : tie.After-extent-of) → c .extent-of .result .first + start c .args .leg .board < length (start c .args .positions .now)
+inside c = omega (arith, ap (λ (x : Extent). x .first) (c .extent-of .ensures), start c .pre .position)
 
 extent-of-requires : tie.Need-extent-of-requires
 extent-of-requires c κs = search needs
@@ -15,16 +26,19 @@ cast-at : tie.Need-cast-at
 cast-at c = search needs
 
 add-at : tie.Need-add-at
-add-at c = omega (arith, ap (λ (x : Extent). x .first) (c .before .before .extent-of .ensures), c .before .before .before .before .before .pre .position, c .before .before .before .before .before .good)
+add-at c = let e = there c in omega (arith, inside e, start e .good)
 
 mul-result : tie.Need-mul-result
-mul-result c = omega (arith, ap (λ (x : Extent). x .first) (c .before .before .extent-of .ensures), c .before .before .before .before .before .pre .position, c .before .before .before .before .before .good)
+mul-result c = let e = there c in omega (arith, inside e, start e .good)
 
 shared-slice-read-result : tie.Need-shared-slice-read-result
-shared-slice-read-result c = omega (arith, ap (λ (x : Extent). x .first) (c .before .before .before .extent-of .ensures), c .before .before .before .before .before .before .pre .position)
+shared-slice-read-result c = inside (there (c .before))
 
 returns : tie.Need-returns
-returns c = ap (λ (x : Extent). getD (c .before .before .before .before .before .before .args .positions .now) (x .first + c .before .before .before .before .before .before .args .leg .board) 0) (c .before .before .before .extent-of .ensures)
+returns c =
+    let e = there (c .before) in
+    let a = start e .args in
+    ap (λ (x : Extent). getD (a .positions .now) (x .first + a .leg .board) 0) (e .extent-of .ensures)
 
 pub board-stop-spec : {M : Type 1} → statement M
 board-stop-spec =

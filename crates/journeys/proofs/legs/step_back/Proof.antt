@@ -4,6 +4,10 @@ use borrow.Author.Needs.{needs}
 use Rattle.journeys.proofs.legs.step_back.Statement.{statement}
 use Rattle.journeys.proofs.legs.step_back.Tie as tie
 
+-- from the search to the start
+abbrev start : tie.After-last-step-arg2 → tie.Start
+start c = c .before .before .before .before .before .before .before .before .before .before
+
 mul-from : tie.Need-mul-from
 mul-from c = search needs
 
@@ -56,7 +60,7 @@ part-last-step-end-2 : tie.Need-part-last-step-end-2
 part-last-step-end-2 c = search needs
 
 last-step-requires : tie.Need-last-step-requires
-last-step-requires c κs = stepping-searched (c .before .before .before .before .before .before .before .before .before .before .pre)
+last-step-requires c κs = stepping-searched (start c .pre)
 
 returns : tie.Need-returns
 returns c = c .last-step .ensures

@@ -16,7 +16,10 @@ abbrev μ-loop : tie.MeasureT-loop
 abbrev need : (tie.InvT-loop → tie.MeasureT-loop → Type 0) → Type 0
 need N = N Inv-loop μ-loop
 
--- from a place of the code to the turn that it is in
+-- from a place of the code to the places around it
+abbrev start : need tie.After-slice-known → need tie.Start
+start c = c .before .before .before .before .before .before .before
+
 abbrev turn : need tie.After-put-leg-arg → need tie.In-loop
 turn c = c .before .before .before .before .before
 
@@ -24,7 +27,7 @@ abbrev put : need tie.After-slice-known2 → need tie.After-put-leg-arg
 put c = c .before .before .before .before
 
 loop-holds : need tie.Need-loop-holds
-loop-holds c = tracing-start _ (c .before .before .before .before .before .before .before .pre)
+loop-holds c = tracing-start _ (start c .pre)
 
 sub-j : need tie.Need-sub-j
 sub-j c = search needs

@@ -3,9 +3,12 @@ use borrow.Author.Needs.{needs}
 use native.Mathlib.Nat.{add-zero}
 use native.Mathlib.Omega.{arith}
 use lib.ListN.{length-set}
-use Rattle.records.proofs.Held.{puts3}
+use Rattle.route_records.proofs.Held.{puts3}
 use Rattle.records.proofs.walks.keep_walk.Statement.{statement}
 use Rattle.records.proofs.walks.keep_walk.Tie as tie
+
+abbrev entry : tie.After-byte-in → tie.Start
+entry c = c .before .before .before
 
 byte-in-requires : tie.Need-byte-in-requires
 byte-in-requires c κs = search needs
@@ -44,7 +47,10 @@ same-length : tie.Need-same-length
 same-length c = search needs
 
 returns : tie.Need-returns
-returns c = rw (c .before .before .byte-in .ensures .is, add-zero (c .before .before .before .before .before .args .at), c .before .byte-in2 .ensures .is, c .two-in .ensures .is) (puts3 (c .before .before .before .before .before .args .d .now) (c .before .before .before .before .before .args .k) _ _ _ (c .before .before .before .before .before .pre .room))
+returns c =
+    let t = c .before in
+    let f = t .before in
+    rw (f .byte-in .ensures .is, add-zero (entry f .args .at), t .byte-in2 .ensures .is, c .two-in .ensures .is) (puts3 (entry f .args .d .now) (entry f .args .k) _ _ _ (entry f .pre .room))
 
 pub keep-walk-spec : {M : Type 1} → statement M
 keep-walk-spec =

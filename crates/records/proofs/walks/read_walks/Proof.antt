@@ -11,26 +11,46 @@ Inv-loop f e k d₀ q₀ j₀ d q j = Walking f e k q₀ d₀ j q d
 abbrev μ-loop : tie.MeasureT-loop
 μ-loop f e k d₀ q₀ j₀ d q j = k - j
 
-loop-holds : tie.Need-loop-holds Inv-loop μ-loop
-loop-holds c = walking-start (c .before .before .args .k) (c .before .before .pre)
+abbrev need : (tie.InvT-loop → tie.MeasureT-loop → Type 0) → Type 0
+need N = N Inv-loop μ-loop
 
-read-walk-requires : tie.Need-read-walk-requires Inv-loop μ-loop
-read-walk-requires c κs = walking-room (c .before .before .before .before .before .args .k) (c .before .before .before .before .before .pre) (c .before .before .loop .inv) (search needs)
+abbrev start : need tie.After-slice-known → need tie.Start
+start c = c .before .before
 
-add-j : tie.Need-add-j Inv-loop μ-loop
+abbrev entry : need tie.At-loop → need tie.Start
+entry l = start (l .before)
+
+abbrev turn : need tie.After-read-walk-arg → need tie.At-loop
+turn c = c .before .before
+
+abbrev walked : need tie.After-slice-known2 → need tie.After-read-walk
+walked c = c .before .before
+
+loop-holds : need tie.Need-loop-holds
+loop-holds c = walking-start (start c .args .k) (start c .pre)
+
+read-walk-requires : need tie.Need-read-walk-requires
+read-walk-requires c κs =
+    let l = turn c in
+    walking-room (entry l .args .k) (entry l .pre) (l .loop .inv) (search needs)
+
+add-j : need tie.Need-add-j
 add-j c = search needs
 
-loop-less : tie.Need-loop-less Inv-loop μ-loop
+loop-less : need tie.Need-loop-less
 loop-less c = search needs
 
-loop-again : tie.Need-loop-again Inv-loop μ-loop
-loop-again c = walking-step (c .before .before .before .before .before .before .before .before .args .k) (c .before .before .before .before .before .before .before .before .pre) (c .before .before .before .before .before .loop .inv) (search needs) (c .before .before .read-walk .ensures)
+loop-again : need tie.Need-loop-again
+loop-again c =
+    let d = walked c in
+    let l = turn (d .before) in
+    walking-step (entry l .args .k) (entry l .pre) (l .loop .inv) (search needs) (d .read-walk .ensures)
 
-same-length : tie.Need-same-length Inv-loop μ-loop
-same-length c = c .before .loop .inv .on .walked .walks .kept
+same-length : need tie.Need-same-length
+same-length c = c .before .loop .inv .on .held .walks .kept
 
-returns : tie.Need-returns Inv-loop μ-loop
-returns c = walking-end (c .before .before .before .before .args .k) (c .before .before .before .before .pre) (c .before .loop .inv) (search needs)
+returns : need tie.Need-returns
+returns c = let l = c .before in walking-end (entry l .args .k) (entry l .pre) (l .loop .inv) (search needs)
 
 pub read-walks-spec : {M : Type 1} → statement M
 read-walks-spec =

@@ -7,7 +7,7 @@ use lib.ListN.{length}
 use Rattle.laws.specs.Below.{mark}
 use Rattle.paper.specs.Timetable.{Route}
 use Rattle.scan.specs.Look.{routeFrom}
-use Rattle.scan.proofs.Looking.{Scanned, scanned-start, scanned-step, scanned-end, boardable, reach-long, next-work-le}
+use Rattle.scan.proofs.Looking.{Scanned, scanned-start, scanned-step, scanned-end, boardable, work-small, reach-long}
 use Rattle.scan.proofs.routes.look.Statement.{statement}
 use Rattle.scan.proofs.routes.look.Tie as tie
 
@@ -17,92 +17,120 @@ Inv-loop stops arrivals departures m row reach₀ n last c₀ work₀ i₀ reach
 abbrev μ-loop : tie.MeasureT-loop
 μ-loop stops arrivals departures m row reach₀ n last c₀ work₀ i₀ reach c work i = length stops - i
 
--- where the loop's test is reached: the function's entry, the route, the row and `reach` as it came
-abbrev start : tie.At-loop Inv-loop μ-loop → tie.Start Inv-loop μ-loop
-start l = l .before .before .before .before .before .before
+abbrev need : (tie.InvT-loop → tie.MeasureT-loop → Type 0) → Type 0
+need N = N Inv-loop μ-loop
 
-abbrev R : tie.At-loop Inv-loop μ-loop → Route
-R l = routeFrom (now (start l .args .stops)) (now (start l .args .arrivals)) (now (start l .args .departures)) (start l .args .m)
+-- from a place of the code to the places around it: an added statement changes one of these lines
+abbrev entry : need tie.After-slice-known → need tie.Start
+entry c = c .before .before .before .before .before
 
-abbrev row : tie.At-loop Inv-loop μ-loop → List ℕ
-row l = now (start l .args .row)
+abbrev start : need tie.At-loop → need tie.Start
+start l = entry (l .before)
 
-abbrev reach₀ : tie.At-loop Inv-loop μ-loop → List ℕ
-reach₀ l = now (start l .args .reach)
+abbrev turn : need tie.After-shared-slice-known6 → need tie.In-loop
+turn c = c .before .before
+
+abbrev boarded : need tie.After-lower-arg → need tie.After-board
+boarded c = c .before .before .before
+
+abbrev left : need tie.After-slice-known2 → need tie.After-arrival
+left c = c .before .before .before
+
+-- the route, the row and `reach` as it came
+abbrev R : need tie.Start → Route
+R s = routeFrom (now (s .args .stops)) (now (s .args .arrivals)) (now (s .args .departures)) (s .args .m)
+
+abbrev row : need tie.Start → List ℕ
+row s = now (s .args .row)
+
+abbrev reach₀ : need tie.Start → List ℕ
+reach₀ s = now (s .args .reach)
 
 -- in a turn there is a next position
-next-in : (t : tie.In-loop Inv-loop μ-loop) → t .before .loop .i + 1 < length (now (start (t .before) .args .stops))
+next-in : (t : need tie.In-loop) → t .before .loop .i + 1 < length (now (start (t .before) .args .stops))
 next-in t = omega (arith, t .loop-test .taken)
 
-sub-last : tie.Need-sub-last Inv-loop μ-loop
+sub-last : need tie.Need-sub-last
 sub-last c = omega arith
 
-loop-holds : tie.Need-loop-holds Inv-loop μ-loop
+loop-holds : need tie.Need-loop-holds
 unfolding mark
-loop-holds c =
-    let s = c .before .before .before .before .before in
-    scanned-start (routeFrom (now (s .args .stops)) (now (s .args .arrivals)) (now (s .args .departures)) (s .args .m)) (now (s .args .row)) (now (s .args .reach))
-    (s .pre .some) (λ k h. omega (arith, c .slice-known .given k))
+loop-holds c = let s = entry c in scanned-start (R s) (row s) (reach₀ s) (s .pre .some) (λ k h. omega (arith, c .slice-known .given k))
 
-mul-here : tie.Need-mul-here Inv-loop μ-loop
+mul-here : need tie.Need-mul-here
 mul-here c = let l = c .before in omega (arith, l .loop .inv .below, start l .good)
 
-shared-slice-read-here : tie.Need-shared-slice-read-here Inv-loop μ-loop
+shared-slice-read-here : need tie.Need-shared-slice-read-here
 shared-slice-read-here c = c .before .before .loop .inv .below
 
-cast-here : tie.Need-cast-here Inv-loop μ-loop
+cast-here : need tie.Need-cast-here
 cast-here c = let l = c .before .before in omega (arith, c .shared-slice-known5 .given (l .loop .i))
 
-mul-board : tie.Need-mul-board Inv-loop μ-loop
+mul-board : need tie.Need-mul-board
 mul-board c = let l = c .before .before in omega (arith, c .shared-slice-known5 .given (l .loop .i))
 
-shared-slice-read-board : tie.Need-shared-slice-read-board Inv-loop μ-loop
-shared-slice-read-board c = let l = c .before .before .before in start l .pre .in-row (l .loop .i) (l .loop .inv .below)
+shared-slice-read-board : need tie.Need-shared-slice-read-board
+shared-slice-read-board c = let l = turn c .before in start l .pre .in-row (l .loop .i) (l .loop .inv .below)
 
-board-requires : tie.Need-board-requires Inv-loop μ-loop
-board-requires c κs = let l = c .before .before .before in boardable (R l) (row l) (reach₀ l) (start l .pre) (l .loop .inv)
+-- both tables rise at a position: which of them is compared, the next row says
+board-requires : need tie.Need-board-requires
+board-requires c κs =
+    let l = turn c .before in
+    let s = start l in
+    boardable (R s) (row s) (reach₀ s) (s .pre) (l .loop .inv) (omega (arith, s .pre .arrivals-size, s .pre .departures-size))
+    (λ j h. omega (arith, s .pre .arrivals-rise j (l .loop .i) h (l .loop .inv .below), s .pre .departures-rise j (l .loop .i) h (l .loop .inv .below)))
 
-add-work : tie.Need-add-work Inv-loop μ-loop
+add-work : need tie.Need-add-work
 add-work c =
-    let l = c .before .before .before .before .before in
-    omega (arith, next-work-le (R l) (row l) (reach₀ l) (start l .pre) (l .loop .inv) (c .before .board .ensures), l .loop .inv .below, start l .pre .few-stops, start l .pre .few-trips)
+    let l = turn (c .before .before) .before in
+    let s = start l in
+    omega (arith, work-small (R s) (row s) (reach₀ s) (s .pre) (l .loop .inv) (c .before .board .ensures), l .loop .inv .below, s .pre .few-stops, s .pre .few-trips)
 
-add-i : tie.Need-add-i Inv-loop μ-loop
-add-i c = omega (arith, next-in (c .before .before .before .before), start (c .before .before .before .before .before) .good)
+add-i : need tie.Need-add-i
+add-i c = let t = turn (c .before .before) in omega (arith, next-in t, start (t .before) .good)
 
-mul-next : tie.Need-mul-next Inv-loop μ-loop
-mul-next c = omega (arith, next-in (c .before .before .before .before), start (c .before .before .before .before .before) .good)
+mul-next : need tie.Need-mul-next
+mul-next c = let t = turn (c .before .before) in omega (arith, next-in t, start (t .before) .good)
 
-shared-slice-read-next : tie.Need-shared-slice-read-next Inv-loop μ-loop
-shared-slice-read-next c = next-in (c .before .before .before .before .before)
+shared-slice-read-next : need tie.Need-shared-slice-read-next
+shared-slice-read-next c = next-in (turn (c .before .before .before))
 
-cast-next : tie.Need-cast-next Inv-loop μ-loop
-cast-next c = omega (arith, c .shared-slice-known7 .given (c .before .before .before .before .before .before .loop .i + 1))
+cast-next : need tie.Need-cast-next
+cast-next c = let t = turn (c .before .before .before) in omega (arith, c .shared-slice-known7 .given (t .before .loop .i + 1))
 
-arrival-requires : tie.Need-arrival-requires Inv-loop μ-loop
-arrival-requires c κs = let t = c .before .before .before .before .before .before in record { inside = next-in t; size = start (t .before) .pre .arrivals-size }
+arrival-requires : need tie.Need-arrival-requires
+arrival-requires c κs = let t = turn (boarded c .before) in record { inside = next-in t; size = start (t .before) .pre .arrivals-size }
 
-lower-requires : tie.Need-lower-requires Inv-loop μ-loop
+lower-requires : need tie.Need-lower-requires
 lower-requires c κs =
-    let t = c .before .before .before .before .before .before .before in
+    let t = turn (boarded (c .before) .before) in
     let l = t .before in
-    omega (arith, start l .pre .in-reach (l .loop .i + 1) (next-in t), reach-long (R l) (row l) (reach₀ l) (start l .pre) (l .loop .inv))
+    let s = start l in
+    omega (arith, s .pre .in-reach (l .loop .i + 1) (next-in t), reach-long (R s) (row s) (reach₀ s) (s .pre) (l .loop .inv))
 
-loop-less : tie.Need-loop-less Inv-loop μ-loop
-loop-less c = omega (arith, next-in (c .before .before .before .before .before .before .before .before .before .before))
+loop-less : need tie.Need-loop-less
+loop-less c = omega (arith, next-in (turn (boarded (left c .before) .before)))
 
-loop-again : tie.Need-loop-again Inv-loop μ-loop
+loop-again : need tie.Need-loop-again
 loop-again c =
-    let t = c .before .before .before .before .before .before .before .before .before .before in
+    let a = left c in
+    let b = boarded (a .before) in
+    let t = turn (b .before) in
     let l = t .before in
-    scanned-step (R l) (row l) (reach₀ l) (start l .pre) (l .loop .inv) (c .before .before .before .before .before .before .before .board .ensures)
-    (next-in t) (c .before .before .before .arrival .ensures) (c .before .before .lower .ensures)
+    let s = start l in
+    scanned-step (R s) (row s) (reach₀ s) (s .pre) (l .loop .inv) (b .board .ensures) (next-in t) (a .arrival .ensures) (c .before .before .lower .ensures)
 
-same-length : tie.Need-same-length Inv-loop μ-loop
-same-length c = let l = c .before in reach-long (R l) (row l) (reach₀ l) (start l .pre) (l .loop .inv)
+same-length : need tie.Need-same-length
+same-length c =
+    let l = c .before in
+    let s = start l in
+    reach-long (R s) (row s) (reach₀ s) (s .pre) (l .loop .inv)
 
-returns : tie.Need-returns Inv-loop μ-loop
-returns c = let l = c .before in scanned-end (R l) (row l) (reach₀ l) (start l .pre) (l .loop .inv) (c .loop-test .left)
+returns : need tie.Need-returns
+returns c =
+    let l = c .before in
+    let s = start l in
+    scanned-end (R s) (row s) (reach₀ s) (s .pre) (l .loop .inv) (c .loop-test .left)
 
 pub look-spec : {M : Type 1} → statement M
 look-spec =

@@ -6,14 +6,17 @@ use Rattle.scan.proofs.routes.look_at.Statement.{statement}
 use Rattle.scan.proofs.routes.look_at.Tie as tie
 
 -- from a place of the code to the places around it
+abbrev entry : tie.After-struct-known → tie.Start
+entry c = c .before .before .before .before .before .before
+
 abbrev start : tie.After-struct-known2 → tie.Start
-start c = c .before .before .before .before .before .before .before
+start c = entry (c .before)
 
 abbrev cut : tie.After-look-arg2 → tie.After-struct-known2
 cut c = c .before .before
 
 cast-n : tie.Need-cast-n
-cast-n c = omega (arith, c .before .before .before .before .before .before .pre .scannable .few-stops)
+cast-n c = omega (arith, entry c .pre .scannable .few-stops)
 
 cast-m : tie.Need-cast-m
 cast-m c = omega (arith, start c .pre .scannable .few-trips)

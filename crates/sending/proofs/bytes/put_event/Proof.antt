@@ -17,7 +17,9 @@ same-length : tie.Need-same-length
 same-length c = search needs
 
 returns : tie.Need-returns
-returns c = puts-then (c .before .before .before .before .before .before .put-three .ensures) (c .before .before .put-three2 .ensures)
+returns c =
+    let d = c .before .before in
+    puts-then (d .before .before .before .before .put-three .ensures) (d .put-three2 .ensures)
 
 pub put-event-spec : {M : Type 1} → statement M
 put-event-spec = tie.close (tie.spec put-three-requires put-three-requires-2 same-length returns)

@@ -29,7 +29,19 @@ same-length : tie.Need-same-length
 same-length c = search needs
 
 returns : tie.Need-returns
-returns c = puts-then (c .before .before .before .before .before .before .before .before .before .before .before .before .before .before .before .before .before .before .before .before .before .before .put-mark .ensures) (puts-then (c .before .before .before .before .before .before .before .before .before .before .before .before .before .before .before .before .before .before .put-byte .ensures) (puts-then (c .before .before .before .before .before .before .before .before .before .before .before .before .before .before .put-byte2 .ensures) (puts-then (c .before .before .before .before .before .before .before .before .before .before .put-byte3 .ensures) (puts-then (c .before .before .before .before .before .before .put-two .ensures) (c .before .before .put-two2 .ensures)))))
+returns c =
+    let size = c .before .before in
+    let walks = size .before .before .before .before in
+    let routes = walks .before .before .before .before in
+    let stops = routes .before .before .before .before in
+    let edition = stops .before .before .before .before in
+    let mark = edition .before .before .before .before in
+    puts-then (mark .put-mark .ensures)
+    (puts-then (edition .put-byte .ensures)
+    (puts-then (stops .put-byte2 .ensures)
+    (puts-then (routes .put-byte3 .ensures)
+    (puts-then (walks .put-two .ensures)
+    (size .put-two2 .ensures)))))
 
 pub put-head-spec : {M : Type 1} → statement M
 put-head-spec =

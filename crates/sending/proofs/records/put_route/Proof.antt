@@ -5,6 +5,22 @@ use Rattle.sending.proofs.Put.{can-mark, can-n, can-m, can-stops, can-t
 use Rattle.sending.proofs.records.put_route.Statement.{statement}
 use Rattle.sending.proofs.records.put_route.Tie as tie
 
+-- from a place of the code to the places before it: an added statement changes one of these lines
+abbrev entry : tie.After-put-mark-arg → tie.Start
+entry c = c .before .before .before .before .before .before .before .before .before .before
+
+abbrev marked : tie.After-put-byte-arg → tie.After-put-mark
+marked c = c .before .before .before
+
+abbrev counted : tie.After-put-two-arg → tie.After-put-byte
+counted c = c .before .before .before
+
+abbrev headed : tie.After-put-stops-arg → tie.After-put-two
+headed c = c .before .before .before
+
+abbrev stopped : tie.After-put-trips-arg → tie.After-put-stops
+stopped c = c .before .before .before
+
 mul-n : tie.Need-mul-n
 mul-n c = search needs
 
@@ -57,19 +73,26 @@ cast-v : tie.Need-cast-v
 cast-v c = search needs
 
 put-mark-requires : tie.Need-put-mark-requires
-put-mark-requires c κs = can-mark (c .before .before .before .before .before .before .before .before .before .before .pre)
+put-mark-requires c κs = can-mark (entry c .pre)
 
 put-byte-requires : tie.Need-put-byte-requires
-put-byte-requires c κs = can-n (c .before .before .before .before .before .before .before .before .before .before .before .before .before .before .pre) (c .before .before .before .put-mark .ensures)
+put-byte-requires c κs = let k = marked c in can-n (entry (k .before) .pre) (k .put-mark .ensures)
 
 put-two-requires : tie.Need-put-two-requires
-put-two-requires c κs = can-m (c .before .before .before .before .before .before .before .before .before .before .before .before .before .before .before .before .before .before .pre) (puts-then (c .before .before .before .before .before .before .before .put-mark .ensures) (c .before .before .before .put-byte .ensures))
+put-two-requires c κs =
+    let n = counted c in
+    let k = marked (n .before) in
+    can-m (entry (k .before) .pre) (puts-then (k .put-mark .ensures) (n .put-byte .ensures))
 
 cast-put-stops : tie.Need-cast-put-stops
 cast-put-stops c = search needs
 
 put-stops-requires : tie.Need-put-stops-requires
-put-stops-requires c κs = can-stops (c .before .before .before .before .before .before .before .before .before .before .before .before .before .before .before .before .before .before .before .before .before .before .pre) (puts-then (c .before .before .before .before .before .before .before .before .before .before .before .put-mark .ensures) (puts-then (c .before .before .before .before .before .before .before .put-byte .ensures) (c .before .before .before .put-two .ensures)))
+put-stops-requires c κs =
+    let m = headed c in
+    let n = counted (m .before) in
+    let k = marked (n .before) in
+    can-stops (entry (k .before) .pre) (puts-then (k .put-mark .ensures) (puts-then (n .put-byte .ensures) (m .put-two .ensures)))
 
 cast-put-trips : tie.Need-cast-put-trips
 cast-put-trips c = search needs
@@ -78,13 +101,25 @@ cast-put-trips-2 : tie.Need-cast-put-trips-2
 cast-put-trips-2 c = search needs
 
 put-trips-requires : tie.Need-put-trips-requires
-put-trips-requires c κs = can-trips (c .before .before .before .before .before .before .before .before .before .before .before .before .before .before .before .before .before .before .before .before .before .before .before .before .before .before .pre) (puts-then (puts-then (c .before .before .before .before .before .before .before .before .before .before .before .before .before .before .before .put-mark .ensures) (puts-then (c .before .before .before .before .before .before .before .before .before .before .before .put-byte .ensures) (c .before .before .before .before .before .before .before .put-two .ensures))) (c .before .before .before .put-stops .ensures))
+put-trips-requires c κs =
+    let s = stopped c in
+    let m = headed (s .before) in
+    let n = counted (m .before) in
+    let k = marked (n .before) in
+    can-trips (entry (k .before) .pre) (puts-then (puts-then (k .put-mark .ensures) (puts-then (n .put-byte .ensures) (m .put-two .ensures))) (s .put-stops .ensures))
 
 same-length : tie.Need-same-length
 same-length c = search needs
 
 returns : tie.Need-returns
-returns c = route-end (c .before .before .before .before .before .before .before .before .before .before .before .before .before .before .before .before .before .before .before .before .before .before .before .before .before .before .before .before .before .pre) (puts-then (c .before .before .before .before .before .before .before .before .before .before .before .before .before .before .before .before .before .before .put-mark .ensures) (puts-then (c .before .before .before .before .before .before .before .before .before .before .before .before .before .before .put-byte .ensures) (c .before .before .before .before .before .before .before .before .before .before .put-two .ensures))) (c .before .before .before .before .before .before .put-stops .ensures) (c .before .before .put-trips .ensures)
+returns c =
+    let t = c .before .before in
+    let s = stopped (t .before) in
+    let m = headed (s .before) in
+    let n = counted (m .before) in
+    let k = marked (n .before) in
+    route-end (entry (k .before) .pre) (puts-then (k .put-mark .ensures) (puts-then (n .put-byte .ensures) (m .put-two .ensures))) (s .put-stops .ensures)
+    (t .put-trips .ensures)
 
 pub put-route-spec : {M : Type 1} → statement M
 put-route-spec =

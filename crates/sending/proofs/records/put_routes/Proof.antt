@@ -13,26 +13,37 @@ Inv-loop routes positions arrivals departures k out₀ at q₀ r₀ out q r = Se
 abbrev μ-loop : tie.MeasureT-loop
 μ-loop routes positions arrivals departures k out₀ at q₀ r₀ out q r = k - r
 
-loop-holds : tie.Need-loop-holds Inv-loop μ-loop
+abbrev need : (tie.InvT-loop → tie.MeasureT-loop → Type 0) → Type 0
+need N = N Inv-loop μ-loop
+
+-- from the loop's first test to the function's entry
+abbrev entry : need tie.After-slice-known → need tie.Start
+entry c = c .before .before .before .before .before
+
+loop-holds : need tie.Need-loop-holds
 unfolding routesBytes
-loop-holds c = sending-start (routeBytes (ofRoutes (c .before .before .before .before .before .args .routes .now) (c .before .before .before .before .before .args .positions .now) (c .before .before .before .before .before .args .arrivals .now) (c .before .before .before .before .before .args .departures .now))) (c .before .before .before .before .before .args .k) (c .before .before .before .before .before .pre .room)
+loop-holds c =
+    let s = entry c in
+    sending-start (routeBytes (ofRoutes (s .args .routes .now) (s .args .positions .now) (s .args .arrivals .now) (s .args .departures .now))) (s .args .k) (s .pre .room)
 
-put-route-requires : tie.Need-put-route-requires Inv-loop μ-loop
-put-route-requires c κs = record { fits = c .before .before .before .before .before .before .before .before .pre .fits (c .before .before .loop .r) (search needs); room = sending-room (c .before .before .loop .inv) (search needs) }
+put-route-requires : need tie.Need-put-route-requires
+put-route-requires c κs =
+    let l = c .before .before in
+    record { fits = entry (l .before) .pre .fits (l .loop .r) (search needs); room = sending-room (l .loop .inv) (search needs) }
 
-add-r : tie.Need-add-r Inv-loop μ-loop
+add-r : need tie.Need-add-r
 add-r c = search needs
 
-loop-less : tie.Need-loop-less Inv-loop μ-loop
+loop-less : need tie.Need-loop-less
 loop-less c = search needs
 
-loop-again : tie.Need-loop-again Inv-loop μ-loop
-loop-again c = sending-step (c .before .before .before .before .before .loop .inv) (search needs) (c .before .before .put-route .ensures)
+loop-again : need tie.Need-loop-again
+loop-again c = let p = c .before .before in sending-step (p .before .before .before .loop .inv) (search needs) (p .put-route .ensures)
 
-same-length : tie.Need-same-length Inv-loop μ-loop
+same-length : need tie.Need-same-length
 same-length c = sending-length (c .before .loop .inv)
 
-returns : tie.Need-returns Inv-loop μ-loop
+returns : need tie.Need-returns
 unfolding routesBytes
 returns c = sending-end (c .before .loop .inv) (search needs)
 

@@ -13,35 +13,49 @@ Inv-loop positions p n out₀ at q₀ i₀ out q i = Sending (stopByte positions
 abbrev μ-loop : tie.MeasureT-loop
 μ-loop positions p n out₀ at q₀ i₀ out q i = n - i
 
-loop-holds : tie.Need-loop-holds Inv-loop μ-loop
+abbrev need : (tie.InvT-loop → tie.MeasureT-loop → Type 0) → Type 0
+need N = N Inv-loop μ-loop
+
+-- from a place of the code to the places before it: an added statement changes one of these lines
+abbrev entry : need tie.At-loop → need tie.Start
+entry l = l .before .before .before
+
+abbrev turn : need tie.After-put-byte-arg → need tie.At-loop
+turn c = c .before .before
+
+loop-holds : need tie.Need-loop-holds
 loop-holds c = stops-start (c .before .before .pre)
 
-add-put-byte : tie.Need-add-put-byte Inv-loop μ-loop
-add-put-byte c = omega (arith, c .before .before .before .before .before .pre .stops .there, c .before .before .before .before .before .good)
+add-put-byte : need tie.Need-add-put-byte
+add-put-byte c = let s = entry (turn c) in omega (arith, s .pre .stops .there, s .good)
 
-mul-put-byte : tie.Need-mul-put-byte Inv-loop μ-loop
-mul-put-byte c = omega (arith, c .before .before .before .before .before .pre .stops .there, c .before .before .before .before .before .good)
+mul-put-byte : need tie.Need-mul-put-byte
+mul-put-byte c = let s = entry (turn c) in omega (arith, s .pre .stops .there, s .good)
 
-shared-slice-read-put-byte : tie.Need-shared-slice-read-put-byte Inv-loop μ-loop
-shared-slice-read-put-byte c = omega (arith, c .before .before .before .before .before .before .pre .stops .there)
+shared-slice-read-put-byte : need tie.Need-shared-slice-read-put-byte
+shared-slice-read-put-byte c = omega (arith, entry (turn (c .before)) .pre .stops .there)
 
-put-byte-requires : tie.Need-put-byte-requires Inv-loop μ-loop
-put-byte-requires c κs = record { small = c .before .before .before .before .before .before .pre .stops .each (c .before .before .before .loop .i) (search needs); room = sending-room (c .before .before .before .loop .inv) (search needs) }
+put-byte-requires : need tie.Need-put-byte-requires
+put-byte-requires c κs =
+    let l = turn (c .before) in
+    record { small = entry l .pre .stops .each (l .loop .i) (search needs); room = sending-room (l .loop .inv) (search needs) }
 
-add-i : tie.Need-add-i Inv-loop μ-loop
+add-i : need tie.Need-add-i
 add-i c = search needs
 
-loop-less : tie.Need-loop-less Inv-loop μ-loop
+loop-less : need tie.Need-loop-less
 loop-less c = search needs
 
-loop-again : tie.Need-loop-again Inv-loop μ-loop
-loop-again c = sending-step (c .before .before .before .before .before .before .loop .inv) (search needs) (c .before .before .put-byte .ensures)
+loop-again : need tie.Need-loop-again
+loop-again c =
+    let p = c .before .before in
+    sending-step (turn (p .before .before) .loop .inv) (search needs) (p .put-byte .ensures)
 
-same-length : tie.Need-same-length Inv-loop μ-loop
+same-length : need tie.Need-same-length
 same-length c = sending-length (c .before .loop .inv)
 
-returns : tie.Need-returns Inv-loop μ-loop
-returns c = stops-end (c .before .before .before .before .pre) (c .before .loop .inv) (search needs)
+returns : need tie.Need-returns
+returns c = let l = c .before in stops-end (entry l .pre) (l .loop .inv) (search needs)
 
 pub put-stops-spec : {M : Type 1} → statement M
 put-stops-spec =

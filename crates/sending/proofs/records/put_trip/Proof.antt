@@ -14,52 +14,70 @@ Inv-loop arrivals departures n v out₀ at q₀ i₀ out q i = Sending (eventAt 
 abbrev μ-loop : tie.MeasureT-loop
 μ-loop arrivals departures n v out₀ at q₀ i₀ out q i = n - i
 
-put-mark-requires : tie.Need-put-mark-requires Inv-loop μ-loop
+abbrev need : (tie.InvT-loop → tie.MeasureT-loop → Type 0) → Type 0
+need N = N Inv-loop μ-loop
+
+-- from a place of the code to the places before it: an added statement changes one of these lines
+abbrev entry : need tie.After-put-mark → need tie.Start
+entry c = c .before .before .before .before .before
+
+abbrev marked : need tie.At-loop → need tie.After-put-mark
+marked l = l .before .before .before
+
+abbrev start : need tie.At-loop → need tie.Start
+start l = entry (marked l)
+
+abbrev turn : need tie.After-put-event-arg → need tie.At-loop
+turn c = c .before .before
+
+put-mark-requires : need tie.Need-put-mark-requires
 put-mark-requires c κs = trip-mark (c .before .before .before .before .pre)
 
-loop-holds : tie.Need-loop-holds Inv-loop μ-loop
-loop-holds c = events-start (c .before .before .before .before .before .before .before .pre) (c .before .before .put-mark .ensures)
+loop-holds : need tie.Need-loop-holds
+loop-holds c = let k = c .before .before in events-start (entry k .pre) (k .put-mark .ensures)
 
-add-put-event : tie.Need-add-put-event Inv-loop μ-loop
-add-put-event c = omega (arith, c .before .before .before .before .before .before .before .before .before .before .pre .arrivals .there, c .before .before .before .before .before .before .before .before .before .before .good)
+add-put-event : need tie.Need-add-put-event
+add-put-event c = let s = start (turn c) in omega (arith, s .pre .arrivals .there, s .good)
 
-mul-put-event : tie.Need-mul-put-event Inv-loop μ-loop
-mul-put-event c = omega (arith, c .before .before .before .before .before .before .before .before .before .before .pre .arrivals .there, c .before .before .before .before .before .before .before .before .before .before .good)
+mul-put-event : need tie.Need-mul-put-event
+mul-put-event c = let s = start (turn c) in omega (arith, s .pre .arrivals .there, s .good)
 
-shared-slice-read-put-event : tie.Need-shared-slice-read-put-event Inv-loop μ-loop
-shared-slice-read-put-event c = omega (arith, c .before .before .before .before .before .before .before .before .before .before .before .pre .arrivals .there)
+shared-slice-read-put-event : need tie.Need-shared-slice-read-put-event
+shared-slice-read-put-event c = omega (arith, start (turn (c .before)) .pre .arrivals .there)
 
-add-put-event-2 : tie.Need-add-put-event-2 Inv-loop μ-loop
-add-put-event-2 c = omega (arith, c .before .before .before .before .before .before .before .before .before .before .before .pre .departures .there, c .before .before .before .before .before .before .before .before .before .before .before .good)
+add-put-event-2 : need tie.Need-add-put-event-2
+add-put-event-2 c = let s = start (turn (c .before)) in omega (arith, s .pre .departures .there, s .good)
 
-mul-put-event-2 : tie.Need-mul-put-event-2 Inv-loop μ-loop
-mul-put-event-2 c = omega (arith, c .before .before .before .before .before .before .before .before .before .before .before .pre .departures .there, c .before .before .before .before .before .before .before .before .before .before .before .good)
+mul-put-event-2 : need tie.Need-mul-put-event-2
+mul-put-event-2 c = let s = start (turn (c .before)) in omega (arith, s .pre .departures .there, s .good)
 
-shared-slice-read-put-event-2 : tie.Need-shared-slice-read-put-event-2 Inv-loop μ-loop
-shared-slice-read-put-event-2 c = omega (arith, c .before .before .before .before .before .before .before .before .before .before .before .before .pre .departures .there)
+shared-slice-read-put-event-2 : need tie.Need-shared-slice-read-put-event-2
+shared-slice-read-put-event-2 c = omega (arith, start (turn (c .before .before)) .pre .departures .there)
 
-put-event-requires : tie.Need-put-event-requires Inv-loop μ-loop
+put-event-requires : need tie.Need-put-event-requires
 put-event-requires c κs =
-    let p = c .before .before .before .before .before .before .before .before .before .before .before .before .pre in
-    let l = c .before .before .before .before .loop in
-    let a = p .arrivals .each (l .i) (search needs) in
-    let d = p .departures .each (l .i) (search needs) in
-    record { arrival< = omega (arith, a, d); departure< = omega (arith, a, d); room = sending-room (l .inv) (search needs) }
+    let l = turn (c .before .before) in
+    let p = start l .pre in
+    let a = p .arrivals .each (l .loop .i) (search needs) in
+    let d = p .departures .each (l .loop .i) (search needs) in
+    record { arrival< = omega (arith, a, d); departure< = omega (arith, a, d); room = sending-room (l .loop .inv) (search needs) }
 
-add-i : tie.Need-add-i Inv-loop μ-loop
+add-i : need tie.Need-add-i
 add-i c = search needs
 
-loop-less : tie.Need-loop-less Inv-loop μ-loop
+loop-less : need tie.Need-loop-less
 loop-less c = search needs
 
-loop-again : tie.Need-loop-again Inv-loop μ-loop
-loop-again c = sending-step (c .before .before .before .before .before .before .before .loop .inv) (search needs) (c .before .before .put-event .ensures)
+loop-again : need tie.Need-loop-again
+loop-again c =
+    let p = c .before .before in
+    sending-step (turn (p .before .before .before) .loop .inv) (search needs) (p .put-event .ensures)
 
-same-length : tie.Need-same-length Inv-loop μ-loop
-same-length c = sending-length (c .before .loop .inv) ∙ puts-length (c .before .before .before .before .put-mark .ensures)
+same-length : need tie.Need-same-length
+same-length c = let l = c .before in sending-length (l .loop .inv) ∙ puts-length (marked l .put-mark .ensures)
 
-returns : tie.Need-returns Inv-loop μ-loop
-returns c = trip-end (c .before .before .before .before .before .before .before .before .before .pre) (c .before .before .before .before .put-mark .ensures) (c .before .loop .inv) (search needs)
+returns : need tie.Need-returns
+returns c = let l = c .before in trip-end (start l .pre) (marked l .put-mark .ensures) (l .loop .inv) (search needs)
 
 pub put-trip-spec : {M : Type 1} → statement M
 put-trip-spec =

@@ -13,31 +13,44 @@ Inv-loop arrivals departures n m v out₀ at q₀ j₀ out q j = Sending (tripAt
 abbrev μ-loop : tie.MeasureT-loop
 μ-loop arrivals departures n m v out₀ at q₀ j₀ out q j = m - j
 
-loop-holds : tie.Need-loop-holds Inv-loop μ-loop
-loop-holds c = sending-start (tripAtRow (c .before .before .before .args .arrivals .now) (c .before .before .before .args .departures .now) (c .before .before .before .args .n) (c .before .before .before .args .v)) (c .before .before .before .args .m) (c .before .before .before .pre .room)
+abbrev need : (tie.InvT-loop → tie.MeasureT-loop → Type 0) → Type 0
+need N = N Inv-loop μ-loop
 
-mul-put-trip : tie.Need-mul-put-trip Inv-loop μ-loop
-mul-put-trip c = omega (arith, row-in (c .before .before .before .before .before .args .n) (c .before .before .before .before .before .args .m) (c .before .loop .j) (search needs), c .before .before .before .before .before .pre .arrivals .there, c .before .before .before .before .before .good)
+-- from the loop's test to the function's entry
+abbrev entry : need tie.At-loop → need tie.Start
+entry l = l .before .before .before .before
 
-add-put-trip : tie.Need-add-put-trip Inv-loop μ-loop
-add-put-trip c = omega (arith, row-in (c .before .before .before .before .before .args .n) (c .before .before .before .before .before .args .m) (c .before .loop .j) (search needs), c .before .before .before .before .before .pre .arrivals .there, c .before .before .before .before .before .good)
+loop-holds : need tie.Need-loop-holds
+loop-holds c =
+    let s = c .before .before .before in
+    sending-start (tripAtRow (s .args .arrivals .now) (s .args .departures .now) (s .args .n) (s .args .v)) (s .args .m) (s .pre .room)
 
-put-trip-requires : tie.Need-put-trip-requires Inv-loop μ-loop
-put-trip-requires c κs = trip-fits (c .before .before .before .before .before .before .pre) (search needs) (sending-room (c .before .before .loop .inv) (search needs))
+mul-put-trip : need tie.Need-mul-put-trip
+mul-put-trip c =
+    let s = entry (c .before) in
+    omega (arith, row-in (s .args .n) (s .args .m) (c .before .loop .j) (search needs), s .pre .arrivals .there, s .good)
 
-add-j : tie.Need-add-j Inv-loop μ-loop
+add-put-trip : need tie.Need-add-put-trip
+add-put-trip c =
+    let s = entry (c .before) in
+    omega (arith, row-in (s .args .n) (s .args .m) (c .before .loop .j) (search needs), s .pre .arrivals .there, s .good)
+
+put-trip-requires : need tie.Need-put-trip-requires
+put-trip-requires c κs = let l = c .before .before in trip-fits (entry l .pre) (search needs) (sending-room (l .loop .inv) (search needs))
+
+add-j : need tie.Need-add-j
 add-j c = search needs
 
-loop-less : tie.Need-loop-less Inv-loop μ-loop
+loop-less : need tie.Need-loop-less
 loop-less c = search needs
 
-loop-again : tie.Need-loop-again Inv-loop μ-loop
-loop-again c = sending-step (c .before .before .before .before .before .loop .inv) (search needs) (c .before .before .put-trip .ensures)
+loop-again : need tie.Need-loop-again
+loop-again c = let p = c .before .before in sending-step (p .before .before .before .loop .inv) (search needs) (p .put-trip .ensures)
 
-same-length : tie.Need-same-length Inv-loop μ-loop
+same-length : need tie.Need-same-length
 same-length c = sending-length (c .before .loop .inv)
 
-returns : tie.Need-returns Inv-loop μ-loop
+returns : need tie.Need-returns
 returns c = sending-end (c .before .loop .inv) (search needs)
 
 pub put-trips-spec : {M : Type 1} → statement M

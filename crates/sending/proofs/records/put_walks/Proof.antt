@@ -18,7 +18,10 @@ unfolding walksBytes
 loop-holds c = sending-start (walkBytes (ofWalks (c .before .before .args .walks .now))) (c .before .before .args .k) (c .before .before .pre .room)
 
 put-walk-requires : tie.Need-put-walk-requires Inv-loop μ-loop
-put-walk-requires c κs = record { fits = c .before .before .before .before .before .pre .fits (c .before .before .loop .w) (search needs); room = sending-room (c .before .before .loop .inv) (search needs) }
+put-walk-requires c κs =
+    let l = c .before .before in
+    let s = l .before .before .before in
+    record { fits = s .pre .fits (l .loop .w) (search needs); room = sending-room (l .loop .inv) (search needs) }
 
 add-w : tie.Need-add-w Inv-loop μ-loop
 add-w c = search needs
@@ -27,7 +30,7 @@ loop-less : tie.Need-loop-less Inv-loop μ-loop
 loop-less c = search needs
 
 loop-again : tie.Need-loop-again Inv-loop μ-loop
-loop-again c = sending-step (c .before .before .before .before .before .loop .inv) (search needs) (c .before .before .put-walk .ensures)
+loop-again c = let p = c .before .before in sending-step (p .before .before .before .loop .inv) (search needs) (p .put-walk .ensures)
 
 same-length : tie.Need-same-length Inv-loop μ-loop
 same-length c = sending-length (c .before .loop .inv)

@@ -1,6 +1,8 @@
 -- `timetable::counts::lowest_route`: the routes passed are right, and these are their sums.
 use Prim.Native.Nat.{_-_}
 use native.Mathlib.Omega.{arith}
+use borrow.Author.Count.{falls}
+use Rattle.paper.proofs.Places.{Counted}
 use Rattle.timetable.proofs.CountTests.{Summed, summed-start, summed-next, summed-found, summed-end, route-counts}
 use Rattle.timetable.proofs.counts.lowest_route.Statement.{statement}
 use Rattle.timetable.proofs.counts.lowest_route.Tie as tie
@@ -13,46 +15,74 @@ abbrev μ-loop : tie.MeasureT-loop
 μ-loop count routes positions₀ trips₀ events₀ r₀ positions trips events r =
     count - r
 
-loop-holds : tie.Need-loop-holds Inv-loop μ-loop
+abbrev need : (tie.InvT-loop → tie.MeasureT-loop → Type 0) → Type 0
+need N = N Inv-loop μ-loop
+
+-- from a place of the code to the places around it: an added statement changes one of these lines
+abbrev start : need tie.In-loop → need tie.Start
+start c = c .before .before .before
+
+abbrev turn : need tie.After-counted → need tie.In-loop
+turn c = c .before .before
+
+abbrev tested : need tie.After-struct-known2 → need tie.After-counted
+tested c = c .before .before
+
+abbrev right : need tie.After-struct-known5 → need tie.Else1
+right c = c .before .before .before
+
+-- a route that is right
+counts : (c : need tie.Else1) → let d = tested (c .before) in let x = d .before .extent-of .result in let l = turn d .before .loop in Counted (x .n) (x .m) (l .trips) (l .events)
+counts c =
+    let d = tested (c .before) in
+    route-counts _ _ _ _ _ _ (turn d .before .loop .inv) (d .before .extent-of .ensures) (d .counted .ensures) (c .if1 .left)
+
+loop-holds : need tie.Need-loop-holds
 loop-holds c = summed-start _ _
 
-extent-of-requires : tie.Need-extent-of-requires Inv-loop μ-loop
-extent-of-requires c κs = omega (arith, c .loop-test .taken, c .before .before .before .pre .routes≤, c .before .before .before .pre .long)
+extent-of-requires : need tie.Need-extent-of-requires
+extent-of-requires c κs = omega (arith, c .loop-test .taken, start c .pre .routes≤, start c .pre .long)
 
-counted-requires : tie.Need-counted-requires Inv-loop μ-loop
+counted-requires : need tie.Need-counted-requires
 counted-requires c κs = c .before .before .loop .inv .before
 
-cast-if1 : tie.Need-cast-if1 Inv-loop μ-loop
-cast-if1 c = omega (arith, c .before .before .before .loop .inv .positions≤, c .before .before .loop-test .taken, c .before .before .before .before .before .pre .routes≤)
+cast-if1 : need tie.Need-cast-if1
+cast-if1 c = omega (arith, turn c .before .loop .inv .positions≤, turn c .loop-test .taken, start (turn c) .pre .routes≤)
 
-cast-if1-2 : tie.Need-cast-if1-2 Inv-loop μ-loop
-cast-if1-2 c = omega (arith, c .before .before .before .before .loop .inv .before .events≤)
+cast-if1-2 : need tie.Need-cast-if1-2
+cast-if1-2 c = omega (arith, turn (c .before) .before .loop .inv .before .events≤)
 
-returns : tie.Need-returns Inv-loop μ-loop
-returns c = summed-found _ _ _ _ _ _ (c .before .before .before .before .before .before .loop .inv) (c .before .before .before .before .extent-of .ensures) (c .before .before .before .before .before .loop-test .taken) (c .before .before .before .counted .ensures) (c .if1 .taken)
+returns : need tie.Need-returns
+returns c =
+    let d = tested (c .before) in
+    summed-found _ _ _ _ _ _ (turn d .before .loop .inv) (d .before .extent-of .ensures) (turn d .loop-test .taken) (d .counted .ensures) (c .if1 .taken)
 
-add-positions : tie.Need-add-positions Inv-loop μ-loop
-add-positions c = omega (arith, route-counts _ _ _ _ _ _ (c .before .before .before .before .before .before .before .loop .inv) (c .before .before .before .before .before .extent-of .ensures) (c .before .before .before .before .counted .ensures) (c .before .if1 .left) .n≤, c .before .before .before .before .before .before .before .loop .inv .positions≤, c .before .before .before .before .before .before .loop-test .taken, c .before .before .before .before .before .before .before .before .before .pre .routes≤)
+add-positions : need tie.Need-add-positions
+add-positions c =
+    let t = turn (tested (c .before .before)) in
+    omega (arith, counts (c .before) .n≤, t .before .loop .inv .positions≤, t .loop-test .taken, start t .pre .routes≤)
 
-add-trips : tie.Need-add-trips Inv-loop μ-loop
-add-trips c = omega (arith, route-counts _ _ _ _ _ _ (c .before .before .before .before .before .before .before .before .loop .inv) (c .before .before .before .before .before .before .extent-of .ensures) (c .before .before .before .before .before .counted .ensures) (c .before .before .if1 .left) .trips≤)
+add-trips : need tie.Need-add-trips
+add-trips c = omega (arith, counts (c .before .before) .trips≤)
 
-mul-events : tie.Need-mul-events Inv-loop μ-loop
-mul-events c = omega (arith, route-counts _ _ _ _ _ _ (c .before .before .before .before .before .before .before .before .before .loop .inv) (c .before .before .before .before .before .before .before .extent-of .ensures) (c .before .before .before .before .before .before .counted .ensures) (c .before .before .before .if1 .left) .events≤)
+mul-events : need tie.Need-mul-events
+mul-events c = omega (arith, counts (right c) .events≤)
 
-add-events : tie.Need-add-events Inv-loop μ-loop
-add-events c = omega (arith, route-counts _ _ _ _ _ _ (c .before .before .before .before .before .before .before .before .before .loop .inv) (c .before .before .before .before .before .before .before .extent-of .ensures) (c .before .before .before .before .before .before .counted .ensures) (c .before .before .before .if1 .left) .events≤)
+add-events : need tie.Need-add-events
+add-events c = omega (arith, counts (right c) .events≤)
 
-add-r : tie.Need-add-r Inv-loop μ-loop
-add-r c = omega (arith, c .before .before .before .before .before .before .before .before .loop-test .taken, c .before .before .before .before .before .before .before .before .before .before .before .pre .routes≤)
+add-r : need tie.Need-add-r
+add-r c = let t = turn (tested (right c .before)) in omega (arith, t .loop-test .taken, start t .pre .routes≤)
 
-loop-less : tie.Need-loop-less Inv-loop μ-loop
-loop-less c = omega (arith, c .before .before .before .before .before .before .before .before .loop-test .taken)
+loop-less : need tie.Need-loop-less
+loop-less c = falls _ _ (turn (tested (right c .before)) .loop-test .taken)
 
-loop-again : tie.Need-loop-again Inv-loop μ-loop
-loop-again c = summed-next _ _ _ _ _ _ (c .before .before .before .before .before .before .before .before .before .loop .inv) (c .before .before .before .before .before .before .before .extent-of .ensures) (c .before .before .before .before .before .before .before .before .loop-test .taken) (c .before .before .before .before .before .before .counted .ensures) (c .before .before .before .if1 .left)
+loop-again : need tie.Need-loop-again
+loop-again c =
+    let d = tested (right c .before) in
+    summed-next _ _ _ _ _ _ (turn d .before .loop .inv) (d .before .extent-of .ensures) (turn d .loop-test .taken) (d .counted .ensures) (right c .if1 .left)
 
-returns-2 : tie.Need-returns-2 Inv-loop μ-loop
+returns-2 : need tie.Need-returns-2
 returns-2 c = summed-end _ _ _ _ _ _ (c .before .loop .inv) (c .loop-test .left)
 
 pub lowest-route-spec : {M : Type 1} → statement M

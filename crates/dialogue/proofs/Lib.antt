@@ -1,0 +1,2 @@
+-- What is said in lines, and that it is one.
+pub mod Said

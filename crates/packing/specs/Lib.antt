@@ -1,0 +1,2 @@
+-- What the contracts of `packing` cite.
+pub mod Packed

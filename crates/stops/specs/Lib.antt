@@ -1,0 +1,2 @@
+-- What rule 7's functions read and promise.
+pub mod Stops
