@@ -10,9 +10,7 @@ ghost use Rattle.leg_lines.specs.Leg.{RidesRoom};
 ghost use Rattle.answer_lines.specs.Room.{EntriesRoom, AnswerRoom};
 ghost use Rattle.answer_lines.specs.Printing.{overlong, Rendered, Refuses};
 use leg_lines::put_legs;
-use lettering::put_byte;
-use lettering::put_named;
-use lettering::put_next;
+use lettering::put_line;
 use paper::Answer;
 use paper::Entry;
 use paper::Verdict;
@@ -27,27 +25,21 @@ fn put_refused(out: &mut [u8], number: u32, place: u32) -> usize
     requires { ⌜ 30 ≤ length (now out) ⌝ }
     ensures { λ r. ⌜ Put (refusedLine number place) 30 0 (now (out .entry)) (now (out .exit)) r ⌝ }
 {
-    let first = put_named(out, 0, b"refused ", number);
-    let second = put_next(out, first, place);
-    put_byte(out, second, b'\n')
+    put_line(out, 0, b"refused ", number, b" ", place)
 }
 
 fn put_journeys(out: &mut [u8], count: u32, work: u32) -> usize
     requires { ⌜ 36 ≤ length (now out) ⌝ }
     ensures { λ r. ⌜ Put (journeysLine count work) 36 0 (now (out .entry)) (now (out .exit)) r ⌝ }
 {
-    let first = put_named(out, 0, b"journeys ", count);
-    let second = put_named(out, first, b" work ", work);
-    put_byte(out, second, b'\n')
+    put_line(out, 0, b"journeys ", count, b" work ", work)
 }
 
 fn put_trips(out: &mut [u8], at: usize, rides: u32, arrival: u32) -> usize
     requires { ⌜ at + 35 ≤ length (now out) ⌝ }
     ensures { λ r. ⌜ Put (tripsLine rides arrival) 35 at (now (out .entry)) (now (out .exit)) r ⌝ }
 {
-    let first = put_named(out, at, b"trips ", rides);
-    let second = put_named(out, first, b" arrive ", arrival);
-    put_byte(out, second, b'\n')
+    put_line(out, at, b"trips ", rides, b" arrive ", arrival)
 }
 
 fn put_entry(out: &mut [u8], at: usize, legs: &[u32], entry: Entry) -> usize

@@ -2,7 +2,7 @@
 ghost use mathlib.Core.List.{[], _∷_, _++_};
 ghost use Prim.Native.Nat.{_+_, _≤_};
 ghost use lib.ListN.{length};
-ghost use Rattle.paper.specs.Lines.{decimal, space};
+ghost use Rattle.paper.specs.Lines.{decimal, space, lineOf};
 ghost use Rattle.lettering.specs.Put.{Put};
 
 pub fn put_byte(out: &mut [u8], at: usize, b: u8) -> usize
@@ -48,10 +48,20 @@ pub fn put_next(out: &mut [u8], at: usize, x: u32) -> usize
 }
 
 // A word, and then the number.
-pub fn put_named(out: &mut [u8], at: usize, word: &[u8], x: u32) -> usize
+fn put_named(out: &mut [u8], at: usize, word: &[u8], x: u32) -> usize
     requires { ⌜ at + length (now word) + 10 ≤ length (now out) ⌝ }
     ensures { λ r. ⌜ Put (now (word .entry) ++ decimal x) (length (now (word .entry)) + 10) at (now (out .entry)) (now (out .exit)) r ⌝ }
 {
     let next = put_word(out, at, word);
     put_decimal(out, next, x)
+}
+
+// A line of two numbers: a word before the first, another between them.
+pub fn put_line(out: &mut [u8], at: usize, before: &[u8], x: u32, between: &[u8], y: u32) -> usize
+    requires { ⌜ at + (length (now before) + length (now between) + 21) ≤ length (now out) ⌝ }
+    ensures { λ r. ⌜ Put (lineOf (now (before .entry)) x (now (between .entry)) y) (length (now (before .entry)) + length (now (between .entry)) + 21) at (now (out .entry)) (now (out .exit)) r ⌝ }
+{
+    let first = put_named(out, at, before, x);
+    let second = put_named(out, first, between, y);
+    put_byte(out, second, b'\n')
 }

@@ -1,7 +1,7 @@
 -- What is printed determines the answer.
 use mathlib.Core.Path.{_≡_, refl, sym, ap, _∙_}
 use mathlib.Core.Bool.{false}
-use mathlib.Core.List.{List, [], _∷_, _++_, append-assoc, append-nil}
+use mathlib.Core.List.{List, [], _∷_, _++_, append-assoc, append-nil, append-cancel-left}
 use Prim.Native.Nat.{ℕ, zero, suc, _+_, _*_, _-_, _<_}
 use native.Mathlib.Omega.{arith}
 use lib.Dec.{eqb}
@@ -13,7 +13,7 @@ use Rattle.laws.specs.Lists.{pieces}
 use Rattle.laws.proofs.Tests.{by-test}
 use Rattle.paper.specs.Rules.{Refusal}
 use Rattle.paper.specs.Reply.{zeroEntry, answered, refused}
-use Rattle.paper.specs.Lines.{space, newline, isDigit, decimal, refusedLine, journeysLine, tripsLine, walkedWord, legLine, entryLines, verdictLines, answerLines}
+use Rattle.paper.specs.Lines.{space, newline, isDigit, decimal, lineOf, refusedLine, journeysLine, tripsLine, walkedWord, legLine, entryLines, verdictLines, answerLines}
 use Rattle.paper.specs.declared.Entry.{Entry}
 use Rattle.paper.specs.declared.Answer.{Answer}
 use Rattle.paper.proofs.Lines.{Without, blank, also, without-append, decimal-without, decimal-injective, space-digit, newline-digit}
@@ -93,32 +93,19 @@ legs-past g h (suc k) f rs ss e =
     in
     split-same (leg-without g (f k)) (leg-without h (f k)) (sym (leg-line g (f k) rs) ∙ t ∙ leg-line h (f k) ss) .1
 
-abbrev arrivePart : ℕ → List ℕ → List ℕ
-arrivePart t rs = 97 ∷ 114 ∷ 114 ∷ 105 ∷ 118 ∷ 101 ∷ 32 ∷ (decimal t ++ (newline ∷ rs))
-
-abbrev tripsPart : ℕ → ℕ → List ℕ → List ℕ
-tripsPart k t rs = 116 ∷ 114 ∷ 105 ∷ 112 ∷ 115 ∷ 32 ∷ (decimal k ++ (32 ∷ arrivePart t rs))
-
-trips-line : (k t : ℕ) (rs : List ℕ) → tripsLine k t ++ rs ≡ tripsPart k t rs
-unfolding tripsLine ascii
-trips-line k t rs = simp append-assoc
-
-abbrev workPart : ℕ → List ℕ → List ℕ
-workPart w rs = 119 ∷ 111 ∷ 114 ∷ 107 ∷ 32 ∷ (decimal w ++ (newline ∷ rs))
-
-abbrev journeysPart : ℕ → ℕ → List ℕ → List ℕ
-journeysPart n w rs = 106 ∷ 111 ∷ 117 ∷ 114 ∷ 110 ∷ 101 ∷ 121 ∷ 115 ∷ 32 ∷ (decimal n ++ (32 ∷ workPart w rs))
-
-journeys-line : (n w : ℕ) (rs : List ℕ) → journeysLine n w ++ rs ≡ journeysPart n w rs
-unfolding journeysLine ascii
-journeys-line n w rs = simp append-assoc
-
-abbrev refusedPart : ℕ → ℕ → List ℕ
-refusedPart n p = 114 ∷ 101 ∷ 102 ∷ 117 ∷ 115 ∷ 101 ∷ 100 ∷ 32 ∷ (decimal n ++ (space ∷ (decimal p ++ (newline ∷ []))))
-
-refused-line : (n p : ℕ) → refusedLine n p ≡ refusedPart n p
-unfolding refusedLine ascii
-refused-line n p = simp append-assoc
+-- two lines with the same words, and what follows them
+line-split :
+    (before between : List ℕ) (j k s t : ℕ) {rs ss : List ℕ} → j < 4294967296 → k < 4294967296 → s < 4294967296 → t < 4294967296
+    → lineOf before j (space ∷ between) s ++ rs ≡ lineOf before k (space ∷ between) t ++ ss → (j ≡ k) × (s ≡ t) × (rs ≡ ss)
+line-split before between j k s t {rs} {ss} hj hk hs ht e =
+    let past : (x y : ℕ) (us : List ℕ) → lineOf before x (space ∷ between) y ++ us ≡ before ++ (decimal x ++ (space ∷ (between ++ (decimal y ++ (newline ∷ us))))) =
+    λ x y us. simp append-assoc
+    in
+    let a : (j ≡ k) × (between ++ (decimal s ++ (newline ∷ rs)) ≡ between ++ (decimal t ++ (newline ∷ ss))) =
+    decimal-split space j k space-digit hj hk (append-cancel-left before _ _ (sym (past j s rs) ∙ e ∙ past k t ss))
+    in
+    let b : (s ≡ t) × (rs ≡ ss) = decimal-split newline s t newline-digit hs ht (append-cancel-left between _ _ (a .1)) in
+    (a .0, b .0, b .1)
 
 -- ---- entries
 
@@ -142,18 +129,12 @@ entry-lines : (g : List ℕ) (e : Entry) (rs : List ℕ)
 unfolding entryLines
 entry-lines g e rs = append-assoc (tripsLine (e .rides) (e .arrival)) (pieces (e .rides) (λ i. legLine g ((e .rides - 1) * 40 + i * 5))) rs
 
--- the line of an entry, and what follows the two numbers
+-- the line of an entry, and what follows it
 trips-split :
     (j k s t : ℕ) {rs ss : List ℕ} → j < 4294967296 → k < 4294967296 → s < 4294967296 → t < 4294967296
     → tripsLine j s ++ rs ≡ tripsLine k t ++ ss → (j ≡ k) × (s ≡ t) × (rs ≡ ss)
-trips-split j k s t {rs} {ss} hj hk hs ht e =
-    let o : tripsPart j s rs ≡ tripsPart k t ss = sym (trips-line j s rs) ∙ e ∙ trips-line k t ss in
-    let p : decimal j ++ (32 ∷ arrivePart s rs) ≡ decimal k ++ (32 ∷ arrivePart t ss) = cc in
-    let a : (j ≡ k) × (arrivePart s rs ≡ arrivePart t ss) = decimal-split 32 j k space-digit hj hk p in
-    let c : arrivePart s rs ≡ arrivePart t ss = a .1 in
-    let q : decimal s ++ (newline ∷ rs) ≡ decimal t ++ (newline ∷ ss) = cc in
-    let b : (s ≡ t) × (rs ≡ ss) = decimal-split newline s t newline-digit hs ht q in
-    (a .0, b .0, b .1)
+unfolding tripsLine ascii
+trips-split = line-split (ascii "trips ") (ascii "arrive ")
 
 entry-same : (a b : Entry) → a .rides ≡ b .rides → a .arrival ≡ b .arrival → a ≡ b
 entry-same a b p q =
@@ -184,43 +165,36 @@ entries-same g h (more {e = a} {es} x y s) (more {e = b} {es = fs} u v t) l e =
 -- ---- answers
 
 answered-line :
-    (g : List ℕ) (work : ℕ) (es : List Entry) → answerLines (answered work es) g ≡ journeysPart (length es) work (entriesLines g es)
+    (g : List ℕ) (work : ℕ) (es : List Entry) → answerLines (answered work es) g ≡ journeysLine (length es) work ++ entriesLines g es
 unfolding answerLines verdictLines
-answered-line g work es = rw (pieces-entries g es (replicate (9 - length es) zeroEntry)) (journeys-line (length es) work (entriesLines g es))
+answered-line g work es = rw (pieces-entries g es (replicate (9 - length es) zeroEntry))
 
-refuses-line : (g : List ℕ) (x : Refusal) → answerLines (refused x) g ≡ refusedPart (x .number) (x .place)
+refuses-line : (g : List ℕ) (x : Refusal) → answerLines (refused x) g ≡ refusedLine (x .number) (x .place) ++ []
 unfolding answerLines verdictLines
-refuses-line g x = refused-line (x .number) (x .place)
+refuses-line g x = sym (append-nil (refusedLine (x .number) (x .place)))
 
 refusal-same : (x y : Refusal) → x .number ≡ y .number → x .place ≡ y .place → x ≡ y
 refusal-same x y p q =
     ap {B = Refusal} (λ (k : ℕ). record { number = k; place = x .place }) p ∙ ap {B = Refusal} (λ (t : ℕ). record { number = y .number; place = t }) q
 
+-- the first byte of the one is j, of the other r
+answered-or-refused : {C : Type 0} (n w number place : ℕ) (rs ss : List ℕ) → journeysLine n w ++ rs ≡ refusedLine number place ++ ss → C
+unfolding journeysLine refusedLine ascii
+answered-or-refused n w number place rs ss e = let z : _≡_ {A = ℕ} 106 114 = cc in absurd (omega arith)
+
 pub printed-same : {a b : Answer} (g h : List ℕ) → Told a → Told b → answerLines a g ≡ answerLines b h → a ≡ b
+unfolding journeysLine refusedLine ascii
 printed-same g h (tells w es hw hn he) (tells v fs kv kn ke) e =
-    let o : journeysPart (length es) w (entriesLines g es) ≡ journeysPart (length fs) v (entriesLines h fs) =
-    sym (answered-line g w es) ∙ e ∙ answered-line h v fs
+    let o : (length es ≡ length fs) × (w ≡ v) × (entriesLines g es ≡ entriesLines h fs) =
+    line-split (ascii "journeys ") (ascii "work ") (length es) (length fs) w v hn kn hw kv (sym (answered-line g w es) ∙ e ∙ answered-line h v fs)
     in
-    let p : decimal (length es) ++ (32 ∷ workPart w (entriesLines g es)) ≡ decimal (length fs) ++ (32 ∷ workPart v (entriesLines h fs)) = cc in
-    let a : (length es ≡ length fs) × (workPart w (entriesLines g es) ≡ workPart v (entriesLines h fs)) =
-    decimal-split 32 (length es) (length fs) space-digit hn kn p
-    in
-    let c : workPart w (entriesLines g es) ≡ workPart v (entriesLines h fs) = a .1 in
-    let q : decimal w ++ (newline ∷ entriesLines g es) ≡ decimal v ++ (newline ∷ entriesLines h fs) = cc in
-    let r : (w ≡ v) × (entriesLines g es ≡ entriesLines h fs) = decimal-split newline w v newline-digit hw kv q in
-    rw (r .0, entries-same g h he ke (a .0) (r .1))
+    rw (o .1, entries-same g h he ke (o .0) (o .2))
 printed-same g h (refuses x hn hp) (refuses y kn kp) e =
-    let o : refusedPart (x .number) (x .place) ≡ refusedPart (y .number) (y .place) = sym (refuses-line g x) ∙ e ∙ refuses-line h y in
-    let p : decimal (x .number) ++ (space ∷ (decimal (x .place) ++ (newline ∷ []))) ≡ decimal (y .number) ++ (space ∷ (decimal (y .place) ++ (newline ∷ []))) = cc in
-    let a : (x .number ≡ y .number) × (decimal (x .place) ++ (newline ∷ []) ≡ decimal (y .place) ++ (newline ∷ [])) =
-    decimal-split space (x .number) (y .number) space-digit hn kn p
+    let o : (x .number ≡ y .number) × (x .place ≡ y .place) × (_≡_ {A = List ℕ} [] []) =
+    line-split (ascii "refused ") [] (x .number) (y .number) (x .place) (y .place) hn kn hp kp (sym (refuses-line g x) ∙ e ∙ refuses-line h y)
     in
-    ap refused (refusal-same x y (a .0) (decimal-split newline (x .place) (y .place) newline-digit hp kp (a .1) .0))
+    ap refused (refusal-same x y (o .0) (o .1))
 printed-same g h (tells w es hw hn he) (refuses y kn kp) e =
-    let o : journeysPart (length es) w (entriesLines g es) ≡ refusedPart (y .number) (y .place) = sym (answered-line g w es) ∙ e ∙ refuses-line h y in
-    let z : _≡_ {A = ℕ} 106 114 = cc in
-    absurd (omega arith)
+    answered-or-refused (length es) w (y .number) (y .place) (entriesLines g es) [] (sym (answered-line g w es) ∙ e ∙ refuses-line h y)
 printed-same g h (refuses x hn hp) (tells v fs kv kn ke) e =
-    let o : refusedPart (x .number) (x .place) ≡ journeysPart (length fs) v (entriesLines h fs) = sym (refuses-line g x) ∙ e ∙ answered-line h v fs in
-    let z : _≡_ {A = ℕ} 114 106 = cc in
-    absurd (omega arith)
+    answered-or-refused (length fs) v (x .number) (x .place) (entriesLines h fs) [] (sym (answered-line h v fs) ∙ sym e ∙ refuses-line g x)

@@ -1,12 +1,12 @@
--- `tables_main::fill_times`: the time stays below n, so that it can be raised.
+-- `tables_main::tables::fill_times`: the time stays below n, so that it can be raised.
 use mathlib.Core.Path.{_≡_}
 use mathlib.Core.Logic.{⊎-elim}
 use Prim.Native.Nat.{_≤_, _-_}
 use native.Mathlib.Omega.{arith}
 use lib.ListN.{length}
 use borrow.Author.Needs.{needs}
-use Rattle.tables_main.proofs.fill_times.Statement.{statement}
-use Rattle.tables_main.proofs.fill_times.Tie as tie
+use Rattle.tables_main.proofs.tables.fill_times.Statement.{statement}
+use Rattle.tables_main.proofs.tables.fill_times.Tie as tie
 
 abbrev Inv-loop : tie.InvT-loop
 Inv-loop times₀ first n time₀ e₀ times time e =

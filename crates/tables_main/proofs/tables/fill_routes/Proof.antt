@@ -1,10 +1,10 @@
--- `tables_main::fill_routes`: the table keeps its length.
+-- `tables_main::tables::fill_routes`: the table keeps its length.
 use mathlib.Core.Path.{_≡_}
 use Prim.Native.Nat.{_-_}
 use lib.ListN.{length}
 use borrow.Author.Needs.{needs}
-use Rattle.tables_main.proofs.fill_routes.Statement.{statement}
-use Rattle.tables_main.proofs.fill_routes.Tie as tie
+use Rattle.tables_main.proofs.tables.fill_routes.Statement.{statement}
+use Rattle.tables_main.proofs.tables.fill_routes.Tie as tie
 
 abbrev Inv-loop : tie.InvT-loop
 Inv-loop routes₀ r₀ routes r = length routes ≡ length routes₀
