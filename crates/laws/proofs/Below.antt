@@ -1,9 +1,9 @@
 -- Laws of the least, some, first, last and sum over the numbers below a bound, and of a loop that searches.
-use mathlib.Core.Path.{_≡_, refl, sym, _∙_}
+use mathlib.Core.Path.{_≡_, refl, sym, ap, _∙_}
 use mathlib.Core.Logic.{_≢_, ⊎-elim}
 use mathlib.Core.Bool.{Bool, true, false, _||_}
-use Prim.Native.Nat.{ℕ, zero, suc, _+_, _≤_, _<_, min}
-use native.Mathlib.Nat.{le-refl}
+use Prim.Native.Nat.{ℕ, zero, suc, _+_, _*_, _≤_, _<_, min}
+use native.Mathlib.Nat.{le-refl, add-zero, add-suc, zero-mul, suc-mul}
 use native.Mathlib.Numerals.{add-one}
 use native.Mathlib.Omega.{arith}
 use borrow.Author.Count.{below-more, below-none}
@@ -203,6 +203,36 @@ sumBelow-mono j (suc k) f h =
 -- a part of the sum and the number after it
 pub sumBelow-at : (k i : ℕ) (f : ℕ → ℕ) → i < k → sumBelow i f + f i ≤ sumBelow k f
 sumBelow-at k i f l = rw (← sumBelow-next i f) (sumBelow-mono (i + 1) k f (omega arith))
+
+pub sumBelow-add : (j k : ℕ) (f : ℕ → ℕ) → sumBelow (j + k) f ≡ sumBelow j f + sumBelow k (λ i. f (j + i))
+unfolding sumBelow
+sumBelow-add j zero f = ap (λ (x : ℕ). sumBelow x f) (add-zero j) ∙ sym (add-zero (sumBelow j f))
+sumBelow-add j (suc k) f =
+    let r = sumBelow-add j k f in
+    let s : sumBelow (j + suc k) f ≡ sumBelow (suc (j + k)) f = ap (λ (x : ℕ). sumBelow x f) (add-suc j k) in
+    omega arith
+
+-- rows of n, whose last is l: j rows and the next one without its last are what lies within rows, and the last of each before
+pub sumBelow-rows :
+    (n l j : ℕ) (f : ℕ → ℕ) → n ≡ l + 1
+    → sumBelow (j * n + l) f ≡ sumBelow (suc j) (λ k. sumBelow l λ i. f (k * n + i)) + sumBelow j (λ k. f (k * n + l))
+unfolding sumBelow
+sumBelow-rows n l zero f e =
+    let z : (i : ℕ) → zero * n + i ≡ i = λ i. omega (arith, zero-mul n) in
+    let a : sumBelow (zero * n + l) f ≡ sumBelow l f = ap (λ (x : ℕ). sumBelow x f) (z l) in
+    let b : sumBelow l (λ i. f (zero * n + i)) ≡ sumBelow l f = sumBelow-same l _ f (λ i h. ap f (z i)) in
+    omega arith
+sumBelow-rows n l (suc j) f e =
+    let y : (i : ℕ) → suc j * n + i ≡ j * n + l + (1 + i) = λ i. omega (arith, suc-mul j n) in
+    let a : sumBelow (suc j * n + l) f ≡ sumBelow (j * n + l + (1 + l)) f = ap (λ (x : ℕ). sumBelow x f) (y l) in
+    let b = sumBelow-add (j * n + l) (1 + l) f in
+    let c = sumBelow-add 1 l (λ i. f (j * n + l + i)) in
+    let d : sumBelow l (λ i. f (j * n + l + (1 + i))) ≡ sumBelow l (λ i. f (suc j * n + i)) =
+    sumBelow-same l _ _ (λ i h. ap f (sym (y i)))
+    in
+    let g : f (j * n + l + 0) ≡ f (j * n + l) = ap f (add-zero (j * n + l)) in
+    let r = sumBelow-rows n l j f e in
+    omega arith
 
 -- ---- iterate
 

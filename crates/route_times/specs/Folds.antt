@@ -2,42 +2,35 @@
 use mathlib.Core.Path.{_≡_}
 use mathlib.Core.Bool.{Bool, false}
 use mathlib.Core.List.{List}
-use Prim.Native.Nat.{ℕ, _+_, _-_, _≤_, _<_}
+use Prim.Native.Nat.{ℕ, _+_, _*_, _-_, _≤_, _<_}
+use lib.Dec.{ltb}
 use lib.ListN.{length, getD}
 use Rattle.paper.specs.Rules.{EventTimes, NoOvertaking}
-use Rattle.route_times.specs.Route.{timesOf, ahead, eventBroken}
+use Rattle.route_times.specs.Route.{timesOf, once, ahead, eventBroken}
 
--- one trip's own times
-pub record InTrip (n : ℕ) (arrivals departures : List ℕ) : Type 0 where
-  pub n≥ : 1 ≤ n
-  pub n≤ : n ≤ 64
-  pub arrivals≥ : n ≤ length arrivals
-  pub departures≥ : n ≤ length departures
+-- so many events stand in the tables
+pub record Events (events : ℕ) (arrivals departures : List ℕ) : Type 0 where
+  pub some : 1 ≤ events
+  pub small : events ≤ 2048
+  pub arrivals≥ : events ≤ length arrivals
+  pub departures≥ : events ≤ length departures
 
--- 8 at both ends of a trip
-pub record AtEnds (last : ℕ) (arrivals departures : List ℕ) : Type 0 where
-  pub small : last < 64
-  pub in-arrivals : last < length arrivals
-  pub in-departures : last < length departures
+-- 8 at both ends of trip j
+pub record EndsRight (n : ℕ) (arrivals departures : List ℕ) (j : ℕ) : Type 0 where
+  pub at-first : getD arrivals (j * n) 0 ≡ getD departures (j * n) 0
+  pub at-last : getD arrivals (j * n + (n - 1)) 0 ≡ getD departures (j * n + (n - 1)) 0
+  pub below : getD departures (j * n + (n - 1)) 0 < 172800
 
-pub record EndsRight (last : ℕ) (arrivals departures : List ℕ) : Type 0 where
-  pub at-first : getD arrivals 0 0 ≡ getD departures 0 0
-  pub at-last : getD arrivals last 0 ≡ getD departures last 0
-  pub below : getD departures last 0 < 172800
+pub record EndsTold (n m : ℕ) (arrivals departures : List ℕ) (wrong : Bool) : Type 0 where
+  pub right : wrong ≡ false → (j : ℕ) → j < m → EndsRight n arrivals departures j
 
-pub record EndsTold (last : ℕ) (arrivals departures : List ℕ) (wrong : Bool) : Type 0 where
-  pub right : wrong ≡ false → EndsRight last arrivals departures
+-- no event's arrival is after its departure
+pub record HaltsTold (events : ℕ) (arrivals departures : List ℕ) (wrong : Bool) : Type 0 where
+  pub right : wrong ≡ false → (e : ℕ) → e < events → getD arrivals e 0 ≤ getD departures e 0
 
--- 8 on one trip
-pub record TripRight (n : ℕ) (arrivals departures : List ℕ) : Type 0 where
-  pub below : (i : ℕ) → i < n → getD departures i 0 < 172800
-  pub in-order : (i : ℕ) → i < n → getD arrivals i 0 ≤ getD departures i 0
-  pub at-first : getD arrivals 0 0 ≡ getD departures 0 0
-  pub at-last : getD arrivals (n - 1) 0 ≡ getD departures (n - 1) 0
-  pub next : (i : ℕ) → i + 1 < n → getD departures i 0 ≤ getD arrivals (i + 1) 0
-
-pub record TripTold (n : ℕ) (arrivals departures : List ℕ) (wrong : Bool) : Type 0 where
-  pub right : wrong ≡ false → TripRight n arrivals departures
+-- does event e depart after the arrival of the event behind it?
+unfoldable pub fallAt : List ℕ → List ℕ → ℕ → ℕ
+fallAt arrivals departures e = once (ltb (getD arrivals (e + 1) 0) (getD departures e 0))
 
 -- 8 on one route
 pub record TimesTold (n m : ℕ) (arrivals departures : List ℕ) (wrong : Bool) : Type 0 where

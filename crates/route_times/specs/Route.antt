@@ -20,10 +20,14 @@ pub record InRoute (n m : ℕ) (arrivals departures : List ℕ) : Type 0 where
   pub arrivals≥ : n * m ≤ length arrivals
   pub departures≥ : n * m ≤ length departures
 
+-- 1 if the test holds, else 0
+abbrev pub once : Bool → ℕ
+once true = 1
+once false = 0
+
 -- 8, or 9 where overtaking is sought. Trip j's event is tested, and of 9 the next trip's is the place
 abbrev pub ahead : Bool → ℕ
-ahead true = 1
-ahead false = 0
+ahead overtaking = once overtaking
 
 unfoldable pub eventBroken : Bool → Route → ℕ → ℕ → Bool
 eventBroken true = overtakes
