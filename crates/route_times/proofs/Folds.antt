@@ -15,7 +15,7 @@ use Rattle.paper.specs.Timetable.{Route}
 use Rattle.paper.specs.Rules.{NoOvertaking}
 use Rattle.paper.proofs.Places.{time-whole, order-whole}
 use Rattle.route_times.specs.Route.{timesOf, eventBroken, InRoute}
-use Rattle.route_times.specs.Folds.{TimesTold, OrderTold, BrokenTold}
+use Rattle.route_times.specs.Folds.{Events, TimesTold, OrderTold, BrokenTold}
 
 -- n further on stands the next trip's event
 pub next-trip : (n j i : ℕ) → j * n + i + n ≡ (j + 1) * n + i
@@ -26,6 +26,16 @@ pub record Stands (arrivals departures : List ℕ) (e : ℕ) : Type 0 where
   pub small : e < 2048
   pub in-arrivals : e < length arrivals
   pub in-departures : e < length departures
+
+pub event-in : {arrivals departures : List ℕ} {events e : ℕ} → Events events arrivals departures → e < events → Stands arrivals departures e
+event-in h l = record { small = omega (arith, h .small); in-arrivals = omega (arith, h .arrivals≥); in-departures = omega (arith, h .departures≥) }
+
+pub route-events : {n m : ℕ} {arrivals departures : List ℕ} → InRoute n m arrivals departures → Events (n * m) arrivals departures
+route-events {n} {m} h =
+    let p = h .n≥ in
+    let q = h .m≥ in
+    let x : 0 * n + 0 < n * m = cell-in n m 0 0 (omega arith) (omega arith) in
+    record { some = omega arith; small = h .small; arrivals≥ = h .arrivals≥; departures≥ = h .departures≥ }
 
 module _ (n m : ℕ) (arrivals departures : List ℕ) where
   abbrev R : Route
@@ -71,9 +81,7 @@ module _ (n m : ℕ) (arrivals departures : List ℕ) where
   pairs-small h = omega (arith, all-pairs h, h .small)
 
   pub next-cell : (e : ℕ) → InRoute n m arrivals departures → e < n * (m - 1) → Stands arrivals departures (e + n)
-  next-cell e h l =
-      let x = all-pairs h in
-      record { small = omega (arith, h .small); in-arrivals = omega (arith, h .arrivals≥); in-departures = omega (arith, h .departures≥) }
+  next-cell e h l = event-in (route-events h) (omega (arith, all-pairs h))
 
   -- ---- 8, or 9 where overtaking is sought
 

@@ -1,5 +1,5 @@
 -- 8 on one route: its times rise within each trip, so that the trip's last departure bounds them all.
-use mathlib.Core.Path.{_≡_, refl, sym, ap, _∙_}
+use mathlib.Core.Path.{_≡_, sym, ap, _∙_}
 use mathlib.Core.Bool.{Bool, false, not, _||_}
 use mathlib.Core.List.{List}
 use Prim.Native.Nat.{ℕ, zero, suc, _+_, _*_, _-_, _≤_, _<_}
@@ -11,32 +11,13 @@ use lib.ListN.{getD}
 use borrow.Author.Count.{below-more}
 use borrow.Author.Tests.{ltb-false, leb-false, eqb-true, not-false}
 use Rattle.laws.specs.Below.{sumBelow}
-use Rattle.laws.proofs.Below.{sumBelow-next, sumBelow-at, sumBelow-rows}
+use Rattle.laws.proofs.Below.{sumBelow-at, sumBelow-rows}
 use Rattle.laws.proofs.Tests.{by-test, by-lt, cell-in}
 use Rattle.laws.proofs.Checking.{or-none}
 use Rattle.paper.specs.Rules.{EventTimes}
 use Rattle.route_times.specs.Route.{timesOf, InRoute}
-use Rattle.route_times.specs.Folds.{Events, EndsRight, EndsTold, HaltsTold, fallAt, TimesTold}
-use Rattle.route_times.proofs.Folds.{Stands, all-pairs}
-
--- ---- a loop that counts: the sum of f below k, none of whose numbers is above 1, is counted up to i
-
-pub record Counted (f : ℕ → ℕ) (k count i : ℕ) : Type 0 where
-  pub within : i ≤ k
-  pub few : count ≤ i
-  pub is : count ≡ sumBelow i f
-
-pub counted-start : (f : ℕ → ℕ) (k : ℕ) → Counted f k 0 0
-unfolding sumBelow
-counted-start f k = record { within = omega arith; few = omega arith; is = refl }
-
-pub counted-more : {f : ℕ → ℕ} {k count i : ℕ} → f i ≤ 1 → i < k → Counted f k count i → Counted f k (count + f i) (i + 1)
-counted-more {f} {k} {count} {i} b l h =
-    let n = sumBelow-next i f in
-    record { within = omega arith; few = omega (arith, h .few); is = omega (arith, h .is) }
-
-pub counted-end : {f : ℕ → ℕ} {k count i : ℕ} → k ≤ i → Counted f k count i → count ≡ sumBelow k f
-counted-end {f} {k} {count} {i} l h = let z : i ≡ k = omega (arith, h .within) in rw z at (h .is)
+use Rattle.route_times.specs.Folds.{EndsRight, EndsTold, HaltsTold, fallAt, TimesTold}
+use Rattle.route_times.proofs.Folds.{Stands, event-in, route-events, all-pairs}
 
 module _ (arrivals departures : List ℕ) where
   abbrev arrive : ℕ → ℕ
@@ -60,9 +41,6 @@ module _ (arrivals departures : List ℕ) where
 
   pub halts-told : (e events : ℕ) (wrong : Bool) → events ≤ e → (wrong ≡ false → HaltsRight e) → HaltsTold events arrivals departures wrong
   halts-told e events wrong l h = record { right = λ f k b. h f k (omega arith) }
-
-  pub event-in : {events e : ℕ} → Events events arrivals departures → e < events → Stands arrivals departures e
-  event-in h l = record { small = omega (arith, h .small); in-arrivals = omega (arith, h .arrivals≥); in-departures = omega (arith, h .departures≥) }
 
   -- ---- the count of falls
 
@@ -106,25 +84,14 @@ module _ (arrivals departures : List ℕ) where
   module _ (n m : ℕ) where
     -- the last event of trip j stands in the tables
     pub last-in : (j : ℕ) → InRoute n m arrivals departures → j < m → Stands arrivals departures (j * n + (n - 1))
-    last-in j h l =
-        let p = h .n≥ in
-        let x : j * n + (n - 1) < n * m = cell-in n m j (n - 1) l (omega arith) in
-        record { small = omega (arith, h .small); in-arrivals = omega (arith, h .arrivals≥); in-departures = omega (arith, h .departures≥) }
+    last-in j h l = let p = h .n≥ in event-in (route-events h) (cell-in n m j (n - 1) l (omega arith))
 
     -- and so does the event behind it, if there is another trip
     pub behind-last : (j : ℕ) → InRoute n m arrivals departures → j < m - 1 → Stands arrivals departures (j * n + (n - 1) + 1)
     behind-last j h l =
         let p = h .n≥ in
         let x : (j + 1) * n + 0 < n * m = cell-in n m (j + 1) 0 (omega arith) (omega arith) in
-        let z = add-mul j 1 n in
-        record { small = omega (arith, h .small); in-arrivals = omega (arith, h .arrivals≥); in-departures = omega (arith, h .departures≥) }
-
-    pub route-events : InRoute n m arrivals departures → Events (n * m) arrivals departures
-    route-events h =
-        let p = h .n≥ in
-        let q = h .m≥ in
-        let x : 0 * n + 0 < n * m = cell-in n m 0 0 (omega arith) (omega arith) in
-        record { some = omega arith; small = h .small; arrivals≥ = h .arrivals≥; departures≥ = h .departures≥ }
+        event-in (route-events h) (omega (arith, add-mul j 1 n))
 
     -- ---- all together
 

@@ -3,13 +3,14 @@ use Prim.Native.Nat.{_+_, _≤_, _-_}
 use native.Mathlib.Omega.{arith}
 use borrow.Author.Count.{falls}
 use Rattle.route_times.specs.Folds.{fallAt}
-use Rattle.route_times.proofs.Folds.{Stands}
-use Rattle.route_times.proofs.Times.{Counted, counted-start, counted-more, counted-end, fall≤, event-in}
+use Rattle.route_times.proofs.Folds.{Stands, event-in}
+use Rattle.laws.proofs.Below.{Tallied, tallied-start, tallied-more, tallied-end}
+use Rattle.route_times.proofs.Times.{fall≤}
 use Rattle.route_times.proofs.falls.Statement.{statement}
 use Rattle.route_times.proofs.falls.Tie as tie
 
 abbrev Inv-loop : tie.InvT-loop
-Inv-loop events arrivals departures last count₀ e₀ count e = Counted (fallAt arrivals departures) (events - 1) count e
+Inv-loop events arrivals departures last count₀ e₀ count e = Tallied (fallAt arrivals departures) (events - 1) count e
 
 abbrev μ-loop : tie.MeasureT-loop
 μ-loop events arrivals departures last count₀ e₀ count e = events - 1 - e
@@ -26,7 +27,7 @@ turn c = c .before .before
 
 -- the event behind this turn's stands in the tables
 behind : (c : need tie.In-loop) → Stands (start c .args .arrivals .now) (start c .args .departures .now) (c .before .loop .e + 1)
-behind c = event-in _ _ (start c .pre) (omega (arith, c .loop-test .taken))
+behind c = event-in (start c .pre) (omega (arith, c .loop-test .taken))
 
 fall : (c : need tie.In-loop) → fallAt (start c .args .arrivals .now) (start c .args .departures .now) (c .before .loop .e) ≤ 1
 fall c = fall≤ (start c .args .arrivals .now) (start c .args .departures .now) (c .before .loop .e)
@@ -35,7 +36,7 @@ sub-last : need tie.Need-sub-last
 sub-last c = c .pre .some
 
 loop-holds : need tie.Need-loop-holds
-loop-holds c = counted-start _ _
+loop-holds c = tallied-start _ _
 
 mul-count : need tie.Need-mul-count
 mul-count c = omega (arith, behind c .small)
@@ -68,10 +69,10 @@ loop-less c = falls _ _ (turn c .loop-test .taken)
 
 loop-again : need tie.Need-loop-again
 unfolding fallAt
-loop-again c = counted-more (fall (turn c)) (turn c .loop-test .taken) (turn c .before .loop .inv)
+loop-again c = tallied-more (fall (turn c)) (turn c .loop-test .taken) (turn c .before .loop .inv)
 
 returns : need tie.Need-returns
-returns c = counted-end (c .loop-test .left) (c .before .loop .inv)
+returns c = tallied-end (c .loop-test .left) (c .before .loop .inv)
 
 pub falls-spec : {M : Type 1} → statement M
 falls-spec =

@@ -4,12 +4,13 @@ use native.Mathlib.Omega.{arith}
 use borrow.Author.Count.{falls}
 use Rattle.route_times.specs.Folds.{fallAt}
 use Rattle.route_times.proofs.Folds.{Stands}
-use Rattle.route_times.proofs.Times.{Counted, counted-start, counted-more, counted-end, fall≤, behind-last}
+use Rattle.laws.proofs.Below.{Tallied, tallied-start, tallied-more, tallied-end}
+use Rattle.route_times.proofs.Times.{fall≤, behind-last}
 use Rattle.route_times.proofs.falls_between.Statement.{statement}
 use Rattle.route_times.proofs.falls_between.Tie as tie
 
 abbrev Inv-loop : tie.InvT-loop
-Inv-loop n m arrivals departures trips count₀ j₀ count j = Counted (λ k. fallAt arrivals departures (k * n + (n - 1))) (m - 1) count j
+Inv-loop n m arrivals departures trips count₀ j₀ count j = Tallied (λ k. fallAt arrivals departures (k * n + (n - 1))) (m - 1) count j
 
 abbrev μ-loop : tie.MeasureT-loop
 μ-loop n m arrivals departures trips count₀ j₀ count j = m - 1 - j
@@ -38,7 +39,7 @@ sub-trips : need tie.Need-sub-trips
 sub-trips c = c .pre .m≥
 
 loop-holds : need tie.Need-loop-holds
-loop-holds c = counted-start _ _
+loop-holds c = tallied-start _ _
 
 mul-last : need tie.Need-mul-last
 mul-last c = omega (arith, behind c .small)
@@ -80,10 +81,10 @@ loop-less c = falls _ _ (turn c .loop-test .taken)
 
 loop-again : need tie.Need-loop-again
 unfolding fallAt
-loop-again c = counted-more (fall (turn c)) (turn c .loop-test .taken) (turn c .before .loop .inv)
+loop-again c = tallied-more (fall (turn c)) (turn c .loop-test .taken) (turn c .before .loop .inv)
 
 returns : need tie.Need-returns
-returns c = counted-end (c .loop-test .left) (c .before .loop .inv)
+returns c = tallied-end (c .loop-test .left) (c .before .loop .inv)
 
 pub falls-between-spec : {M : Type 1} → statement M
 falls-between-spec =

@@ -4,8 +4,8 @@ use mathlib.Core.Bool.{false}
 use Prim.Native.Nat.{_≤_, _-_}
 use native.Mathlib.Omega.{arith}
 use borrow.Author.Count.{falls}
-use Rattle.route_times.proofs.Folds.{Stands}
-use Rattle.route_times.proofs.Times.{HaltsRight, halts-start, halts-more, halts-told, event-in}
+use Rattle.route_times.proofs.Folds.{Stands, event-in}
+use Rattle.route_times.proofs.Times.{HaltsRight, halts-start, halts-more, halts-told}
 use Rattle.route_times.proofs.halts_wrong.Statement.{statement}
 use Rattle.route_times.proofs.halts_wrong.Tie as tie
 
@@ -27,7 +27,7 @@ turn c = c .before .before
 
 -- the event of this turn stands in the tables
 here : (c : need tie.In-loop) → Stands (start c .args .arrivals .now) (start c .args .departures .now) (c .before .loop .e)
-here c = event-in _ _ (start c .pre) (c .loop-test .taken)
+here c = event-in (start c .pre) (c .loop-test .taken)
 
 loop-holds : need tie.Need-loop-holds
 loop-holds c = (omega arith, halts-start (c .args .arrivals .now) (c .args .departures .now) _)

@@ -1,6 +1,7 @@
 -- `route_times::times_wrong`: what its four loops tell together.
 use borrow.Author.Needs.{needs}
-use Rattle.route_times.proofs.Times.{route-events, times-told}
+use Rattle.route_times.proofs.Folds.{route-events}
+use Rattle.route_times.proofs.Times.{times-told}
 use Rattle.route_times.proofs.times_wrong.Statement.{statement}
 use Rattle.route_times.proofs.times_wrong.Tie as tie
 
@@ -18,10 +19,10 @@ ends-wrong-requires : tie.Need-ends-wrong-requires
 ends-wrong-requires c κs = search needs
 
 halts-wrong-requires : tie.Need-halts-wrong-requires
-halts-wrong-requires c κs = route-events _ _ _ _ (entry c .pre)
+halts-wrong-requires c κs = route-events (entry c .pre)
 
 falls-requires : tie.Need-falls-requires
-falls-requires c κs = route-events _ _ _ _ (entry (c .before) .pre)
+falls-requires c κs = route-events (entry (c .before) .pre)
 
 falls-between-requires : tie.Need-falls-between-requires
 falls-between-requires c κs = search needs
