@@ -1,4 +1,6 @@
 // The printer's lines out.
+#![tactic(auto)]
+
 ghost use Rattle.std.specs.Prelude.{◌≡◌, ◌+◌, ◌≤◌, length, get_or};
 ghost use Rattle.laws.specs.Lists.{pieces};
 ghost use Rattle.paper.specs.Reply.{zero_entry};
@@ -13,7 +15,7 @@ use lettering::put_line;
 use paper::{Answer, Entry, Verdict};
 
 // Printing is done, with the number of bytes; or something is too short, and nothing is printed.
-#[derive(Drop)]
+#[derive(Clone, Copy)]
 pub enum Printed {
     Done(usize),
     TooShort,

@@ -1,4 +1,6 @@
 // The cabinet's face for C and Rust: checking, reading, writing and asking on numbers and slices alone, each answer packed into one number.
+#![tactic(auto)]
+
 ghost use Rattle.std.specs.Prelude.{◌≡◌, [], ◌∷◌, length};
 ghost use Rattle.paper.specs.Timetable.{lent};
 ghost use Rattle.paper.specs.Reply.{check_of, read_into, reply_of};

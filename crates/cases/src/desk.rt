@@ -9,7 +9,7 @@ use crate::tables::{at, put};
 use paper::{Heads, Question};
 
 // The line's first byte, or 0 before it; the place of the number that is read, and its value so far.
-#[derive(Drop)]
+#[derive(Clone, Copy)]
 struct Line {
     word: u8,
     place: usize,
@@ -17,7 +17,7 @@ struct Line {
 }
 
 // What is done with the network on the desk.
-#[derive(Drop)]
+#[derive(Clone, Copy)]
 enum Doing {
     Asks,
     AllThree,

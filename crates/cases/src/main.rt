@@ -1,4 +1,6 @@
 // Document 01's cases through the code. The input is a list of networks and questions with names in 01's words; each name is printed, then what came out.
+#![tactic(auto)]
+
 mod asking;
 mod checking;
 mod desk;

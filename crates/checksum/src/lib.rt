@@ -1,4 +1,6 @@
 // Fletcher's sum of a run of bytes.
+#![tactic(auto)]
+
 ghost use Rattle.std.specs.Prelude.{◌≡◌};
 ghost use Rattle.paper.specs.Feed.{fletcher_from, fletcher_of};
 ghost use Rattle.checksum.specs.Small.{Is};

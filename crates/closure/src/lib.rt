@@ -1,4 +1,6 @@
 // 11: the walks are closed.
+#![tactic(auto)]
+
 ghost use Rattle.std.specs.Prelude.{◌≡◌};
 ghost use Rattle.paper.specs.Rules.{lowest_of, opens};
 ghost use Rattle.places.specs.Place.{place_of};

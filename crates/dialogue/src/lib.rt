@@ -1,4 +1,6 @@
 // A question's line answered in lines, over tables that were read.
+#![tactic(auto)]
+
 ghost use Rattle.std.specs.Prelude.{◌≤◌, length};
 ghost use Rattle.paper.specs.Timetable.{lent};
 ghost use Rattle.paper.specs.Lines.{refused_line, question_of, question_lines};

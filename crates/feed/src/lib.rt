@@ -1,4 +1,6 @@
 // Reading a feed into tables 1 to 5, and writing the feed of lent tables.
+#![tactic(auto)]
+
 ghost use Rattle.std.specs.Prelude.{◌≡◌, [], ◌∷◌, length};
 ghost use Rattle.paper.specs.Timetable.{lent};
 ghost use Rattle.paper.specs.Reply.{read_into};

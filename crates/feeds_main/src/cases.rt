@@ -7,7 +7,7 @@ use crate::passing::{Passed, pass};
 use paper::{Reading, Writing};
 
 // Where a line is: whether what it is has been said, which number comes, and the numbers so far.
-#[derive(Drop)]
+#[derive(Clone, Copy)]
 struct Line {
     said: bool,
     field: u32,

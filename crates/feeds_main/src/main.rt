@@ -1,4 +1,6 @@
 // Feeds through `feed::read` and `feed::write`: the cases that standard input lists, damaged feeds, and networks written and read back.
+#![tactic(auto)]
+
 mod bytes;
 mod cases;
 mod damage;

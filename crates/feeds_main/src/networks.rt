@@ -5,7 +5,7 @@ use crate::walks::{put_most_walks, put_walks};
 use paper::Heads;
 
 // The limits of a kind of network: its stops, its routes, and a route's positions less one and events.
-#[derive(Drop)]
+#[derive(Clone, Copy)]
 struct Shape {
     stops: u32,
     routes: u32,
@@ -14,21 +14,21 @@ struct Shape {
 }
 
 // A network to come.
-#[derive(Drop)]
+#[derive(Clone, Copy)]
 struct Size {
     stops: u32,
     routes: u32,
 }
 
 // A route to come: its positions, and how many events it may have.
-#[derive(Drop)]
+#[derive(Clone, Copy)]
 struct Planned {
     n: u32,
     events: u32,
 }
 
 // How much of tables 1 to 4 is used, and the generator's number.
-#[derive(Drop)]
+#[derive(Clone, Copy)]
 struct Used {
     seed: u32,
     routes: u32,

@@ -5,14 +5,14 @@ use crate::numbers::{ARRIVALS, DEPARTURES, POSITIONS, WALKS, get, mixed, plus, p
 use paper::{Heads, Reading, Writing};
 
 // What reading answers, and the tables after it.
-#[derive(Drop)]
+#[derive(Clone, Copy)]
 pub struct Read {
     pub answer: Reading,
     pub tables: [u32; 7936],
 }
 
 // The answers of reading and writing, and the digest with reading's answer and the tables after it.
-#[derive(Drop)]
+#[derive(Clone, Copy)]
 pub struct Passed {
     pub reading: Reading,
     pub writing: Writing,

@@ -6,7 +6,7 @@ use crate::passing::{pass, read_feed, write_of};
 use paper::{Heads, Reading, Writing};
 
 // Over all networks so far: routes, walks, bytes, a digest of the bytes, and what differs.
-#[derive(Drop)]
+#[derive(Clone, Copy)]
 struct Totals {
     routes: u32,
     walks: u32,

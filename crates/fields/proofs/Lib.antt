@@ -1,4 +1,2 @@
--- The walks that the readings share, and laws of fields near a feed's end.
-pub mod Thin
-pub mod Over
+-- Laws of fields near a feed's end.
 pub mod Ends

@@ -1,10 +1,12 @@
 // "Each record begins with a two-byte mark": the field reader holds the feed and a record's offset in it.
+#![tactic(auto)]
+
 ghost use Rattle.std.specs.Prelude.{◌≡◌, ◌+◌, ◌/◌, ◌%◌, length};
-ghost use Rattle.laws.specs.Fields.{byte as byte_of, two as twoOf};
+ghost use Rattle.laws.specs.Fields.{byte as byte_of, two as two_of};
 ghost use Rattle.paper.specs.Reading.{marked};
 ghost use Rattle.fields.specs.Field.{Field};
 
-#[derive(Drop)]
+#[derive(Clone, Copy)]
 pub struct Fields<'a> {
     pub feed: &'a [u8],
     pub at: usize,
@@ -28,7 +30,7 @@ fn byte_at(feed: &[u8], at: usize, off: usize) -> u32
 
 // Likewise two bytes, high byte first. Where `off` is past the end the answer comes at once, so that `off + 1` is a number.
 fn two_at(feed: &[u8], at: usize, off: usize) -> u32
-    ensures { Field (twoOf feed.now (at + off)) 65536 result }
+    ensures { Field (two_of feed.now (at + off)) 65536 result }
 {
     if feed.len() <= off {
         return 0;
@@ -76,7 +78,7 @@ impl<'a> Fields<'a> {
 
     // The record's field of two bytes at `off`, high byte first.
     pub fn two(self, off: usize) -> u32
-        ensures { Field (twoOf self.entry.feed.now (self.entry.at + off)) 65536 result }
+        ensures { Field (two_of self.entry.feed.now (self.entry.at + off)) 65536 result }
     {
         two_at(self.feed, self.at, off)
     }
@@ -97,7 +99,7 @@ pub fn byte_in(feed: &[u8], at: usize, off: usize) -> u32
 }
 
 pub fn two_in(feed: &[u8], at: usize, off: usize) -> u32
-    ensures { Field (twoOf feed.now (at + off)) 65536 result }
+    ensures { Field (two_of feed.now (at + off)) 65536 result }
 {
     fields_at(feed, at).two(off)
 }

@@ -1,4 +1,6 @@
 // 10: each walk.
+#![tactic(auto)]
+
 ghost use Rattle.std.specs.Prelude.{◌≡◌};
 ghost use Rattle.paper.specs.Rules.{lowest_of, walk_broken};
 ghost use Rattle.places.specs.Place.{place_of};

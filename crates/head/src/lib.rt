@@ -1,4 +1,6 @@
 // The head record: its refusal, for the layer above, which has checked the feed's length.
+#![tactic(auto)]
+
 ghost use Rattle.std.specs.Prelude.{◌≤◌, length};
 ghost use Rattle.paper.specs.Reading.{head_bad};
 ghost use Rattle.head.specs.Head.{HeadDone};
@@ -6,7 +8,7 @@ ghost use Rattle.head.specs.Head.{HeadDone};
 use fields::{begins_in, byte_in, two_in};
 
 // The head's refusal: its number and place, or 0 and 0.
-#[derive(Drop)]
+#[derive(Clone, Copy)]
 pub struct Head {
     pub bad: u32,
     pub at: usize,

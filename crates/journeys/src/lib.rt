@@ -1,4 +1,6 @@
 // Journeys are read back from the labels by the tie rule: the first last step, and from its boarding stop again.
+#![tactic(auto)]
+
 ghost use Rattle.std.specs.Prelude.{◌≡◌, ◌+◌, ◌*◌, ◌≤◌, ◌<◌, length, get_or, replicate};
 ghost use Rattle.laws.specs.Below.{mark};
 ghost use Rattle.laws.specs.Lists.{over};
@@ -11,7 +13,7 @@ use crate::legs::trace;
 use paper::{Entry, Heads, MARK, Question};
 
 // The first `count` of the entries are those found, the others are zero.
-#[derive(Drop)]
+#[derive(Clone, Copy)]
 pub struct Listed {
     pub count: u32,
     pub entries: [Entry; 9],

@@ -1,4 +1,6 @@
 // The lines of an entry's legs, put into a buffer.
+#![tactic(auto)]
+
 ghost use Rattle.std.specs.Prelude.{[], ◌∷◌, ◌++◌, ◌+◌, ◌*◌, ◌-◌, ◌≤◌, length};
 ghost use Rattle.laws.specs.Lists.{pieces};
 ghost use Rattle.paper.specs.Lines.{space, newline, walked_word, leg_line};

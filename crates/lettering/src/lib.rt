@@ -1,4 +1,6 @@
 // Bytes, words and decimal numbers put into a buffer; each function answers the place after what it put.
+#![tactic(auto)]
+
 ghost use Rattle.std.specs.Prelude.{[], ◌∷◌, ◌++◌, ◌+◌, ◌≤◌, length};
 ghost use Rattle.paper.specs.Lines.{decimal, space, line_of};
 ghost use Rattle.lettering.specs.Put.{Put};

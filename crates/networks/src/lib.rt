@@ -1,4 +1,6 @@
 // Small networks and questions of them, the same in every run, for trials of the planner.
+#![tactic(auto)]
+
 pub mod dice;
 pub mod network;
 pub mod questions;

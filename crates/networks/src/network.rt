@@ -13,7 +13,7 @@ fn apart(a: u32, b: u32) -> u32 {
 }
 
 // The most that a network may have: of stops and positions beside two, of trips beside one.
-#[derive(Drop)]
+#[derive(Clone, Copy)]
 struct Size {
     stops: u32,
     routes: u32,
@@ -104,7 +104,7 @@ fn ladder(seed: u32) -> [u32; 8192] {
 }
 
 // How a network's walks are made: the groups of stops less one, upwards only or not, how stops lie, and the seconds for each length.
-#[derive(Drop)]
+#[derive(Clone, Copy)]
 struct Plan {
     groups: u32,
     upwards: bool,

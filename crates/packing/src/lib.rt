@@ -1,4 +1,6 @@
 // An answer as one number, and the entries as nineteen.
+#![tactic(auto)]
+
 ghost use Rattle.std.specs.Prelude.{◌≡◌};
 ghost use Rattle.packing.specs.Packed.{packed, checked_number, reading_number, writing_number, verdict_number, entries_after};
 

@@ -1,4 +1,6 @@
 // One question answered: every refusal in 01's order, then labels, work, entries and legs.
+#![tactic(auto)]
+
 ghost use Rattle.std.specs.Prelude.{◌≡◌, [], ◌∷◌};
 ghost use Rattle.paper.specs.Timetable.{tables, lent};
 ghost use Rattle.paper.specs.Reply.{short_table, question_broken, refused, refusal, reply_of};

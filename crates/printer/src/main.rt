@@ -1,4 +1,6 @@
 // The printer: the feed from `timetable.bin`, one line from standard input, the answer in 01's lines on standard output.
+#![tactic(auto)]
+
 ghost use Rattle.std.specs.Prelude.{◌≤◌, length};
 ghost use Rattle.paper.specs.Lines.{printed};
 ghost use Rattle.io.specs.Counts.{IsPrefixLen};

@@ -1,4 +1,6 @@
 // The printer's line in: five numbers.
+#![tactic(auto)]
+
 ghost use Rattle.std.specs.Prelude.{◌≡◌};
 ghost use Rattle.paper.specs.Lines.{question_of};
 ghost use Rattle.question_line.specs.Asking.{asked_of, field_at};
@@ -6,14 +8,14 @@ ghost use Rattle.question_line.specs.Asking.{asked_of, field_at};
 use paper::Question;
 
 // The line asks a question; or it has another shape.
-#[derive(Drop)]
+#[derive(Clone, Copy)]
 pub enum Asked {
     Line(Question),
     Unreadable,
 }
 
 // A number of the line, and the place past the byte that ends it; or no number of 32 bits.
-#[derive(Drop)]
+#[derive(Clone, Copy)]
 enum Field {
     Number(u32, usize),
     Bad,

@@ -1,4 +1,6 @@
 // All records of a feed, from the left, into tables 1 to 5, for the layer above: it has checked the feed's length and cleared the tables.
+#![tactic(auto)]
+
 ghost use Rattle.std.specs.Prelude.{◌≡◌};
 ghost use Rattle.paper.specs.Reading.{ended, whole_of};
 ghost use Rattle.records.specs.State.{Near4, BodyRoom, last_bad, RestRoom, RestDone, walks_from, Ended};
@@ -12,7 +14,7 @@ use route_records::read_routes;
 use standing::stands;
 
 // Where the reading of all records ended, with the refusal's number or 0.
-#[derive(Drop)]
+#[derive(Clone, Copy)]
 pub struct Last {
     pub bad: u32,
     pub at: usize,

@@ -11,7 +11,7 @@ use fields::{byte_in, two_in};
 use standing::stands;
 
 // The reading of the walks: the refusal's number or 0, the offset, and how much table 5 holds.
-#[derive(Drop)]
+#[derive(Clone, Copy)]
 pub struct WalksRead {
     pub bad: u32,
     pub at: usize,

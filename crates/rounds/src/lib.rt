@@ -1,4 +1,6 @@
 // Labels and work, round by round. What a round looks at is counted by crate `scan`.
+#![tactic(auto)]
+
 ghost use Rattle.paper.specs.Timetable.{lent};
 ghost use Rattle.rounds.specs.Round.{RoundAsked, RoundDone};
 ghost use Rattle.rounds.specs.Run.{Asked, Ran};
@@ -11,7 +13,7 @@ use scan::routes::ride;
 use scan::walks::walk;
 
 // What a round cost, and whether it improved a stop.
-#[derive(Drop)]
+#[derive(Clone, Copy)]
 pub struct Progress {
     pub work: u32,
     pub improved: bool,
@@ -54,7 +56,7 @@ fn round(
 }
 
 // The work of all rounds run; or the round whose work passes the budget.
-#[derive(Drop)]
+#[derive(Clone, Copy)]
 pub enum Rounds {
     Within(u32),
     Passed(u32),

@@ -1,4 +1,6 @@
 // Document 01's networks through `run`: for each question the work, or the round that passes the budget, and rows 0 to 3.
+#![tactic(auto)]
+
 ghost use Rattle.std.specs.Prelude.{◌≡◌, ◌≤◌, length};
 ghost use Rattle.laws.specs.Lists.{over};
 ghost use Rattle.paper.specs.Timetable.{lent};

@@ -1,4 +1,6 @@
 // Route records and their trips, read into tables 1 to 4. Reading that has met a bad record stays where it is.
+#![tactic(auto)]
+
 ghost use Rattle.std.specs.Prelude.{◌≡◌};
 ghost use Rattle.paper.specs.Rules.{counted};
 ghost use Rattle.paper.specs.Reading.{next_route};
@@ -13,7 +15,7 @@ use fields::{byte_in, two_in};
 use standing::stands;
 
 // The reading of the routes: the refusal's number or 0, the offset, and how much each table holds.
-#[derive(Drop)]
+#[derive(Clone, Copy)]
 pub struct RoutesRead {
     pub bad: u32,
     pub at: usize,

@@ -8,7 +8,7 @@ use crate::keep::keep_times;
 use standing::stands;
 
 // The reading of a route's trips: the refusal's number or 0, the offset, and how many events the tables hold.
-#[derive(Drop)]
+#[derive(Clone, Copy)]
 pub struct TripsRead {
     pub bad: u32,
     pub at: usize,

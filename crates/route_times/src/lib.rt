@@ -1,4 +1,6 @@
 // 8 and 9 on one route: whether any event is broken. The loops leave nowhere early, so that several places are tested at a time.
+#![tactic(auto)]
+
 ghost use Rattle.std.specs.Prelude.{◌≡◌, ◌+◌, ◌*◌, ◌-◌};
 ghost use Rattle.laws.specs.Below.{sum_below};
 ghost use Rattle.route_times.specs.Route.{InRoute};

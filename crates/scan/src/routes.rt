@@ -8,7 +8,7 @@ use extents::{Extent, extent_of};
 use paper::MARK;
 
 // The trip that is caught after a position, and the departures compared there.
-#[derive(Drop)]
+#[derive(Clone, Copy)]
 struct Caught {
     trip: usize,
     work: u32,

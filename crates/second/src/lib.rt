@@ -1,5 +1,7 @@
 // A second planner, for trials of the first, with which it shares no code and no way of working: it lists every step of the network, tries every journey made of
 // them, and keeps the earliest arrivals. The time that it takes grows as the number of journeys, so it is for small networks: of up to sixteen stops and 930 steps.
+#![tactic(auto)]
+
 mod legs;
 mod rows;
 pub mod steps;
@@ -13,7 +15,7 @@ use crate::work::work_of;
 use paper::{Answer, Entry, Question, Verdict};
 
 // What a question gets: both tables and the answer.
-#[derive(Drop)]
+#[derive(Clone, Copy)]
 pub struct Reply {
     pub labels: [u32; 2304],
     pub legs: [u32; 320],

@@ -43,7 +43,7 @@ pub fn count_of(net: &[u32], i: u32) -> u32 {
 }
 
 // A route: its number, n and m, its first position and its first event.
-#[derive(Drop)]
+#[derive(Clone, Copy)]
 pub struct Line {
     pub route: u32,
     pub n: u32,

@@ -1,4 +1,6 @@
 // The bytes of a feed put into a buffer, for the layer above: it has checked the tables, and lends a buffer of at least the feed's size.
+#![tactic(auto)]
+
 ghost use Rattle.std.specs.Prelude.{◌≡◌, [], ◌+◌, ◌*◌};
 ghost use Rattle.paper.specs.Timetable.{lent};
 ghost use Rattle.paper.specs.Feed.{feed_of};

@@ -1,4 +1,6 @@
 // Whether a record stands at an offset; and the bytes and times in one. The loops over these know that they stand, so no test is made again for each.
+#![tactic(auto)]
+
 ghost use Rattle.std.specs.Prelude.{◌≡◌, ◌+◌, ◌<◌, length};
 ghost use Rattle.laws.specs.Fields.{byte, three};
 ghost use Rattle.paper.specs.Reading.{marked};

@@ -1,4 +1,6 @@
 // The search for the first last step: over ways in, routes, trips, leaving and boarding positions, in the tie rule's order.
+#![tactic(auto)]
+
 ghost use Rattle.std.specs.Prelude.{◌≡◌, ◌+◌, ◌≤◌, length};
 ghost use Rattle.paper.specs.Timetable.{lent};
 ghost use Rattle.paper.specs.Tie.{first_step};
@@ -8,14 +10,14 @@ use extents::{Extent, extent_of};
 use paper::{After, Heads, Leg, MARK};
 
 // What the search finds.
-#[derive(Drop)]
+#[derive(Clone, Copy)]
 pub enum Found {
     Step(Leg),
     Nothing,
 }
 
 // A way in to a stop: where a ride has to end, the seconds from there, and what comes after it.
-#[derive(Drop)]
+#[derive(Clone, Copy)]
 enum Way {
     Open(u32, u32, After),
     Shut,

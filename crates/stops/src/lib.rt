@@ -1,4 +1,6 @@
 // 7: each position is at a stop.
+#![tactic(auto)]
+
 ghost use Rattle.std.specs.Prelude.{◌≡◌, ◌≤◌, length};
 ghost use Rattle.paper.specs.Rules.{lowest_of, stop_broken};
 ghost use Rattle.places.specs.Place.{place_of};

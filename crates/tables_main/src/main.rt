@@ -1,4 +1,6 @@
 // The edges of 01's rules, each checked once and printed on a line: `done LIMIT`, or the refusal's number and place.
+#![tactic(auto)]
+
 ghost use Rattle.std.specs.Prelude.{length};
 ghost use Rattle.tables_main.specs.Lengths.{Lengths};
 
@@ -10,7 +12,7 @@ use crate::tables::{
 use paper::{Checked, Heads};
 
 // One number of the tables 1 to 5 is another. Table 0 is both tables of times.
-#[derive(Drop)]
+#[derive(Clone, Copy)]
 struct Change {
     table: u32,
     at: usize,

@@ -1,4 +1,6 @@
 // Checking lent tables: 01's rules 6, 5, 7 to 11, in that order, each at its lowest place.
+#![tactic(auto)]
+
 ghost use Rattle.std.specs.Prelude.{◌≡◌};
 ghost use Rattle.paper.specs.Timetable.{lent};
 ghost use Rattle.paper.specs.Rules.{whole_rules, first_broken, fault_of};
@@ -18,14 +20,14 @@ use stops::lowest_stop;
 use trips::lowest_event;
 
 // What the first broken rule refuses.
-#[derive(Drop)]
+#[derive(Clone, Copy)]
 pub enum Fault {
     Refused(u32, u32),
     Unbroken,
 }
 
 // All positions and all trips together.
-#[derive(Drop)]
+#[derive(Clone, Copy)]
 pub struct Totals {
     pub positions: u32,
     pub trips: u32,

@@ -1,4 +1,6 @@
 // The planner against a second planner that enumerates journeys, on many small networks: labels, legs, entries, work and refusals have to be equal.
+#![tactic(auto)]
+
 mod same;
 mod tallies;
 

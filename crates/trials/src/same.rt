@@ -3,7 +3,7 @@ use paper::{Answer, Entry, Verdict};
 use second::Reply;
 
 // What the first planner leaves: its labels and legs stood in tables that held 7 and have some elements more than their full size.
-#[derive(Drop)]
+#[derive(Clone, Copy)]
 pub struct First {
     pub labels: [u32; 2310],
     pub legs: [u32; 330],

@@ -1,4 +1,6 @@
 // 8 and 9: the lowest event at which times within a trip are wrong, or a trip overtakes.
+#![tactic(auto)]
+
 ghost use Rattle.std.specs.Prelude.{◌≡◌};
 ghost use Rattle.paper.specs.Rules.{time_broken, overtakes};
 ghost use Rattle.places.specs.Place.{place_of};

@@ -1,0 +1,41 @@
+-- `feed::body::read_body` meets its contract: what the two clearings leave.
+use mathlib.Core.Path.{◌∙◌}
+use Rattle.feed.proofs.Judge.{fill_room, filled_again, leaves_bad, leaves_good}
+use Rattle.feed.proofs.body.read_body.Goals as goal
+
+pub clear-requires : goal.clear-requires
+clear-requires c = c.requires.full
+
+pub fill-requires : goal.fill-requires
+fill-requires c = fill_room c.clear.ensures c.requires
+
+pub clear-requires-in-Refused : goal.clear-requires-in-Refused
+clear-requires-in-Refused c =
+    filled_again c.clear.ensures c.fill.ensures c.requires
+
+pub returns-in-Done : goal.returns-in-Done
+returns-in-Done c = leaves_good c.clear.ensures c.fill.ensures c.in-Done.is
+
+pub shape_of-routes-in-Refused : goal.shape_of-routes-in-Refused
+shape_of-routes-in-Refused c =
+    c.clear-in-Refused.auto.0 ∙ c.fill.auto.1.0 ∙ c.clear.auto.0
+
+pub shape_of-positions-in-Refused : goal.shape_of-positions-in-Refused
+shape_of-positions-in-Refused c =
+    c.clear-in-Refused.auto.1.0 ∙ c.fill.auto.1.1.0 ∙ c.clear.auto.1.0
+
+pub shape_of-arrivals-in-Refused : goal.shape_of-arrivals-in-Refused
+shape_of-arrivals-in-Refused c =
+    c.clear-in-Refused.auto.1.1.0 ∙ c.fill.auto.1.1.1.0 ∙ c.clear.auto.1.1.0
+
+pub shape_of-departures-in-Refused : goal.shape_of-departures-in-Refused
+shape_of-departures-in-Refused c =
+    c.clear-in-Refused.auto.1.1.1.0 ∙ c.fill.auto.1.1.1.1.0 ∙ c.clear.auto.1.1.1.0
+
+pub shape_of-walks-in-Refused : goal.shape_of-walks-in-Refused
+shape_of-walks-in-Refused c =
+    c.clear-in-Refused.auto.1.1.1.1.0 ∙ c.fill.auto.1.1.1.1.1.0 ∙ c.clear.auto.1.1.1.1.0
+
+pub returns-in-Refused : goal.returns-in-Refused
+returns-in-Refused c =
+    leaves_bad c.clear.ensures c.fill.ensures c.in-Refused.is c.clear-in-Refused.ensures

@@ -1,0 +1,25 @@
+use borrow.Author.Rules.{rules}
+use Prim.Native.Nat.{ℕ, ◌+◌}
+use mathlib.Core.List.{List}
+use Rattle.laws.specs.Fields.{byte}
+use Rattle.paper.specs.Reading.{stops_at}
+use Rattle.route_records.proofs.Held.{putting_start, putting_step, putting_end}
+use Rattle.route_records.proofs.keep.keep_stops.Goals as goal
+
+-- PENDING
+abbrev stops : List ℕ → ℕ → ℕ → ℕ
+stops f at i = byte f (at + i)
+
+pub loop-i-init : goal.loop-i-init
+loop-i-init c = putting_start
+
+pub loop-i-preserved : goal.loop-i-preserved
+loop-i-preserved c =
+    putting_step c.requires.room c.loop-i.invariant (search rules) c.byte_at.ensures.is
+
+pub shape_of-d : goal.shape_of-d
+shape_of-d c = c.loop-i.invariant.kept
+
+pub returns : goal.returns
+unfolding stops_at
+returns c = putting_end c.requires.room c.loop-i.invariant (search rules)

@@ -1,0 +1,11 @@
+-- `sending::bytes::put_mark` meets its contract: two stores.
+use native.Mathlib.Omega.{arith}
+use lib.ListN.{length-set}
+use Rattle.sending.proofs.Sent.{puts_2}
+use Rattle.sending.proofs.bytes.put_mark.Goals as goal
+
+pub bounds-out-at-2 : goal.bounds-out-at-2
+bounds-out-at-2 c = simp length-set (omega arith)
+
+pub returns : goal.returns
+returns c = puts_2 c.args.out.now c.args.at c.args.first c.args.second c.requires
