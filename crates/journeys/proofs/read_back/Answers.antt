@@ -1,7 +1,7 @@
-use mathlib.Core.Logic.{⊎_elim}
 use native.Mathlib.Omega.{arith}
 use Rattle.journeys.proofs.Listing.{listing_start, listing_cell, listing_place, listing_few, listing_traceable, listing_take, listing_skip, listing_length, listing_end}
 use Rattle.journeys.proofs.read_back.Goals as goal
+use Rattle.journeys.proofs.read_back.Goals.{then-arrival-best, else-arrival-best}
 
 pub clear-requires : goal.clear-requires
 clear-requires c = c.requires.legs_room
@@ -29,10 +29,11 @@ pub loop-k-preserved : goal.loop-k-preserved
 loop-k-preserved c =
     let f = c.loop-k.invariant in
     let at = c.label_at-arrival.ensures in
-    ⊎_elim
-    (λ w. rw (w.6, w.7, w.8) (listing_take f c.loop-k-test.true at w.0.taken w.3.ensures w.1.ensures))
-    (λ w. rw (w.1, w.2, w.3) (listing_skip f c.loop-k-test.true at w.0.left))
-    c.if-arrival-best.branch
+    elim c.if-arrival-best.branch [
+      then-arrival-best w ↦
+        rw (w.legs-is, w.listed-is, w.best-is) (listing_take f c.loop-k-test.true at w.if-arrival-best.true w.trace.ensures w.list_also-listed.ensures)
+    | else-arrival-best w ↦ rw (w.legs-is, w.listed-is, w.best-is) (listing_skip f c.loop-k-test.true at w.if-arrival-best.false)
+    ]
 
 pub shape_of-legs : goal.shape_of-legs
 shape_of-legs c =

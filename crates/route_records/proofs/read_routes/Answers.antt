@@ -13,16 +13,16 @@ loop-j-preserved c =
     routing_step c.requires c.loop-j.invariant (search rules) c.read_route-q.ensures
 
 pub shape_of-routes : goal.shape_of-routes
-shape_of-routes c = c.loop-j.invariant.held.heads.auto
+shape_of-routes c = c.loop-j.invariant.held.heads.kept
 
 pub shape_of-positions : goal.shape_of-positions
-shape_of-positions c = c.loop-j.invariant.held.positions.auto
+shape_of-positions c = c.loop-j.invariant.held.positions.kept
 
 pub shape_of-arrivals : goal.shape_of-arrivals
-shape_of-arrivals c = c.loop-j.invariant.held.arrivals.auto
+shape_of-arrivals c = c.loop-j.invariant.held.arrivals.kept
 
 pub shape_of-departures : goal.shape_of-departures
-shape_of-departures c = c.loop-j.invariant.held.departures.auto
+shape_of-departures c = c.loop-j.invariant.held.departures.kept
 
 pub returns : goal.returns
 returns c = routing_end c.requires c.loop-j.invariant (search rules)

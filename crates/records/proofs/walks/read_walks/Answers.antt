@@ -14,7 +14,7 @@ loop-j-preserved c =
     walking_step c.args.k c.requires c.loop-j.invariant (search rules) c.read_walk-q.ensures
 
 pub shape_of-d : goal.shape_of-d
-shape_of-d c = c.loop-j.invariant.on.held.walks.auto
+shape_of-d c = c.loop-j.invariant.on.held.walks.kept
 
 pub returns : goal.returns
 returns c = walking_end c.args.k c.requires c.loop-j.invariant (search rules)

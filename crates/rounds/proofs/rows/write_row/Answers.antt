@@ -1,7 +1,7 @@
-use mathlib.Core.Logic.{⊎_elim}
 use native.Mathlib.Omega.{arith}
 use Rattle.rounds.proofs.Writing.{improves_now, improves_not, writing_start, writing_long, writing_step, writing_end}
 use Rattle.rounds.proofs.rows.write_row.Goals as goal
+use Rattle.rounds.proofs.rows.write_row.Goals.{then-new-old, else-new-old}
 
 pub loop-s-init : goal.loop-s-init
 loop-s-init c = writing_start _ _ _ _ _
@@ -16,10 +16,12 @@ bounds-labels-base-in-loop-s c =
 
 pub loop-s-preserved : goal.loop-s-preserved
 loop-s-preserved c =
-    ⊎_elim
-    (λ w. rw w.1 (writing_step _ _ _ _ _ c.requires c.loop-s.invariant c.loop-s-test.true c.smaller-new.ensures c.smaller.ensures (improves_now w.0.taken)))
-    (λ w. rw w.1 (writing_step _ _ _ _ _ c.requires c.loop-s.invariant c.loop-s-test.true c.smaller-new.ensures c.smaller.ensures (improves_not w.0.left)))
-    c.if-new-old.branch
+    elim c.if-new-old.branch [
+      then-new-old w ↦
+        rw w.improved-is (writing_step _ _ _ _ _ c.requires c.loop-s.invariant c.loop-s-test.true c.smaller-new.ensures c.smaller.ensures (improves_now w.if-new-old.true))
+    | else-new-old w ↦
+        rw w.improved-is (writing_step _ _ _ _ _ c.requires c.loop-s.invariant c.loop-s-test.true c.smaller-new.ensures c.smaller.ensures (improves_not w.if-new-old.false))
+    ]
 
 pub shape_of-labels : goal.shape_of-labels
 shape_of-labels c = writing_long _ _ _ _ _ c.requires c.loop-s.invariant

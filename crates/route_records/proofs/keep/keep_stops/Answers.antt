@@ -6,10 +6,6 @@ use Rattle.paper.specs.Reading.{stops_at}
 use Rattle.route_records.proofs.Held.{putting_start, putting_step, putting_end}
 use Rattle.route_records.proofs.keep.keep_stops.Goals as goal
 
--- PENDING
-abbrev stops : List ℕ → ℕ → ℕ → ℕ
-stops f at i = byte f (at + i)
-
 pub loop-i-init : goal.loop-i-init
 loop-i-init c = putting_start
 

@@ -6,10 +6,6 @@ use Rattle.paper.specs.Reading.{times_at}
 use Rattle.route_records.proofs.Held.{putting_start, putting_step, putting_end}
 use Rattle.route_records.proofs.keep.keep_times.Goals as goal
 
--- PENDING
-abbrev times : List ℕ → ℕ → ℕ → ℕ
-times f at i = three f (at + 6 * i)
-
 pub loop-i-init : goal.loop-i-init
 loop-i-init c = putting_start
 

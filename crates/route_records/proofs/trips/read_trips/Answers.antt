@@ -14,10 +14,10 @@ loop-j-preserved c =
     riding_step c.args.m c.requires c.loop-j.invariant (search rules) c.read_trip-q.ensures
 
 pub shape_of-arrivals : goal.shape_of-arrivals
-shape_of-arrivals c = c.loop-j.invariant.on.held.arrivals.auto
+shape_of-arrivals c = c.loop-j.invariant.on.held.arrivals.kept
 
 pub shape_of-departures : goal.shape_of-departures
-shape_of-departures c = c.loop-j.invariant.on.held.departures.auto
+shape_of-departures c = c.loop-j.invariant.on.held.departures.kept
 
 pub returns : goal.returns
 returns c = riding_end c.args.m c.requires c.loop-j.invariant (search rules)

@@ -15,21 +15,24 @@ returns-then-heads_broken c =
     heads_refused T (sym c.heads_broken.ensures ∙ c.if-heads_broken.true)
 
 pub lowest_route-requires : goal.lowest_route-requires
+unfolding heads_broken
 lowest_route-requires c =
     let T : Tables = of_counts c.args.heads c.args.routes.now in
-    let heads-unbroken : heads_broken T ≡ false unfolding heads_broken = sym c.heads_broken.ensures ∙ c.if-heads_broken.false in
-    record { routes≤ = (heads_right T (heads-unbroken)).routes≤; long = c.requires.routes }
+    let heads-unbroken : heads_broken T ≡ false = sym c.heads_broken.ensures ∙ c.if-heads_broken.false in
+    record { routes≤ = (heads_right T heads-unbroken).routes≤; long = c.requires.routes }
 
 pub returns-in-At : goal.returns-in-At
+unfolding heads_broken
 returns-in-At c =
     let T : Tables = of_counts c.args.heads c.args.routes.now in
-    let heads-unbroken : heads_broken T ≡ false unfolding heads_broken = sym c.heads_broken.ensures ∙ c.if-heads_broken.false in
+    let heads-unbroken : heads_broken T ≡ false = sym c.heads_broken.ensures ∙ c.if-heads_broken.false in
     let t = T in
-    route_refused t (heads-unbroken) (routes_read t (sym c.in-At.is ∙ c.lowest_route.ensures))
+    route_refused t heads-unbroken (routes_read t (sym c.in-At.is ∙ c.lowest_route.ensures))
 
 pub returns : goal.returns
+unfolding heads_broken
 returns c =
     let T : Tables = of_counts c.args.heads c.args.routes.now in
-    let heads-unbroken : heads_broken T ≡ false unfolding heads_broken = sym c.heads_broken.ensures ∙ c.if-heads_broken.false in
+    let heads-unbroken : heads_broken T ≡ false = sym c.heads_broken.ensures ∙ c.if-heads_broken.false in
     let t = T in
-    counts_passed t (heads-unbroken) (routes_read t (sym c.in_default.is ∙ c.lowest_route.ensures))
+    counts_passed t heads-unbroken (routes_read t (sym c.in_default.is ∙ c.lowest_route.ensures))

@@ -1,3 +1,4 @@
+use Rattle.std.proofs.Common.{ap, not}
 use native.Mathlib.Omega.{arith}
 use borrow.Author.Count.{falls}
 use Rattle.paper.proofs.Places.{Counted}
@@ -21,26 +22,26 @@ overflow_cast-events c = omega (arith, c.loop-r.invariant.before.events≤)
 
 pub returns-then-not-counted-route : goal.returns-then-not-counted-route
 returns-then-not-counted-route c =
-    summed_found _ _ _ _ _ _ c.loop-r.invariant c.extent_of-route.ensures c.loop-r-test.true c.counted.ensures c.if-not-counted-route.true
+    summed_found _ _ _ _ _ _ c.loop-r.invariant c.extent_of-route.ensures c.loop-r-test.true c.counted.ensures (ap not c.if-not-counted-route.true)
 
 pub overflow_add-positions : goal.overflow_add-positions
 overflow_add-positions c =
-    let counts : let x = c.extent_of-route.result in let l = c.loop-r in Counted x.n x.m l.trips l.events = route_counts _ _ _ _ _ _ c.loop-r.invariant c.extent_of-route.ensures c.counted.ensures c.if-not-counted-route.false in
+    let counts : let x = c.extent_of-route.result in let l = c.loop-r in Counted x.n x.m l.trips l.events = route_counts _ _ _ _ _ _ c.loop-r.invariant c.extent_of-route.ensures c.counted.ensures (ap not c.if-not-counted-route.false) in
     omega (arith, counts.n≤, c.loop-r.invariant.positions≤, c.loop-r-test.true, c.requires.routes≤)
 
 pub overflow_add-trips : goal.overflow_add-trips
 overflow_add-trips c =
-    let counts : let x = c.extent_of-route.result in let l = c.loop-r in Counted x.n x.m l.trips l.events = route_counts _ _ _ _ _ _ c.loop-r.invariant c.extent_of-route.ensures c.counted.ensures c.if-not-counted-route.false in
+    let counts : let x = c.extent_of-route.result in let l = c.loop-r in Counted x.n x.m l.trips l.events = route_counts _ _ _ _ _ _ c.loop-r.invariant c.extent_of-route.ensures c.counted.ensures (ap not c.if-not-counted-route.false) in
     omega (arith, counts.trips≤)
 
 pub overflow_mul-events : goal.overflow_mul-events
 overflow_mul-events c =
-    let counts : let x = c.extent_of-route.result in let l = c.loop-r in Counted x.n x.m l.trips l.events = route_counts _ _ _ _ _ _ c.loop-r.invariant c.extent_of-route.ensures c.counted.ensures c.if-not-counted-route.false in
+    let counts : let x = c.extent_of-route.result in let l = c.loop-r in Counted x.n x.m l.trips l.events = route_counts _ _ _ _ _ _ c.loop-r.invariant c.extent_of-route.ensures c.counted.ensures (ap not c.if-not-counted-route.false) in
     omega (arith, counts.events≤)
 
 pub overflow_add-events : goal.overflow_add-events
 overflow_add-events c =
-    let counts : let x = c.extent_of-route.result in let l = c.loop-r in Counted x.n x.m l.trips l.events = route_counts _ _ _ _ _ _ c.loop-r.invariant c.extent_of-route.ensures c.counted.ensures c.if-not-counted-route.false in
+    let counts : let x = c.extent_of-route.result in let l = c.loop-r in Counted x.n x.m l.trips l.events = route_counts _ _ _ _ _ _ c.loop-r.invariant c.extent_of-route.ensures c.counted.ensures (ap not c.if-not-counted-route.false) in
     omega (arith, counts.events≤)
 
 pub overflow_step-r : goal.overflow_step-r
@@ -51,7 +52,7 @@ loop-r-smaller c = falls _ _ c.loop-r-test.true
 
 pub loop-r-preserved : goal.loop-r-preserved
 loop-r-preserved c =
-    summed_next _ _ _ _ _ _ c.loop-r.invariant c.extent_of-route.ensures c.loop-r-test.true c.counted.ensures c.if-not-counted-route.false
+    summed_next _ _ _ _ _ _ c.loop-r.invariant c.extent_of-route.ensures c.loop-r-test.true c.counted.ensures (ap not c.if-not-counted-route.false)
 
 pub returns : goal.returns
 returns c = summed_end _ _ _ _ _ _ c.loop-r.invariant c.loop-r-test.false
