@@ -16,26 +16,6 @@ clear-requires-in-Refused c =
 pub returns-in-Done : goal.returns-in-Done
 returns-in-Done c = leaves_good c.clear.ensures c.fill.ensures c.in-Done.is
 
-pub shape_of-routes-in-Refused : goal.shape_of-routes-in-Refused
-shape_of-routes-in-Refused c =
-    c.clear-in-Refused.auto.0 ∙ c.fill.auto.1.0 ∙ c.clear.auto.0
-
-pub shape_of-positions-in-Refused : goal.shape_of-positions-in-Refused
-shape_of-positions-in-Refused c =
-    c.clear-in-Refused.auto.1.0 ∙ c.fill.auto.1.1.0 ∙ c.clear.auto.1.0
-
-pub shape_of-arrivals-in-Refused : goal.shape_of-arrivals-in-Refused
-shape_of-arrivals-in-Refused c =
-    c.clear-in-Refused.auto.1.1.0 ∙ c.fill.auto.1.1.1.0 ∙ c.clear.auto.1.1.0
-
-pub shape_of-departures-in-Refused : goal.shape_of-departures-in-Refused
-shape_of-departures-in-Refused c =
-    c.clear-in-Refused.auto.1.1.1.0 ∙ c.fill.auto.1.1.1.1.0 ∙ c.clear.auto.1.1.1.0
-
-pub shape_of-walks-in-Refused : goal.shape_of-walks-in-Refused
-shape_of-walks-in-Refused c =
-    c.clear-in-Refused.auto.1.1.1.1.0 ∙ c.fill.auto.1.1.1.1.1.0 ∙ c.clear.auto.1.1.1.1.0
-
 pub returns-in-Refused : goal.returns-in-Refused
 returns-in-Refused c =
     leaves_bad c.clear.ensures c.fill.ensures c.in-Refused.is c.clear-in-Refused.ensures

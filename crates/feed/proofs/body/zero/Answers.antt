@@ -1,16 +1,10 @@
 use mathlib.Core.Path.{◌≡◌, refl, ap, ◌∙◌}
-use mathlib.Core.List.{List, ◌++◌}
-use Prim.Native.Nat.{ℕ, ◌≤◌}
+use mathlib.Core.List.{◌++◌}
+use Prim.Native.Nat.{ℕ}
 use native.Mathlib.Omega.{arith}
-use lib.ListN.{length, drop, replicate, length-set}
+use lib.ListN.{drop, replicate, length-set}
 use borrow.Author.Fill.{fill_more}
 use Rattle.feed.proofs.body.zero.Goals as goal
-
--- PENDING
-record Zeroing (d₀ : List ℕ) (k i : ℕ) (d : List ℕ) : Type 0 where
-  i≤ : i ≤ k
-  is : d ≡ replicate i 0 ++ drop i d₀
-  kept : length d ≡ length d₀
 
 pub loop-i-init : goal.loop-i-init
 loop-i-init c = record { i≤ = omega arith; is = refl; kept = refl }
