@@ -7,8 +7,13 @@ ghost use Rattle.io.specs.Counts.{IsPrefixLen};
 ghost use Rattle.dialogue.specs.Says.{Says};
 
 use dialogue::{answer, refuse};
-use libc::{STDIN_FILENO, STDOUT_FILENO};
 use paper::Reading;
+use std::fs::File;
+use std::io::Read;
+
+const STDIN: i32 = 0;
+
+const STDOUT: i32 = 1;
 
 // All that is printed for a feed and an input.
 fn reply(feed: &[u8], input: &[u8], out: &mut [u8]) -> usize
@@ -44,16 +49,21 @@ fn reply(feed: &[u8], input: &[u8], out: &mut [u8]) -> usize
 }
 
 // The bytes of the file, at most one more than the longest feed has; a missing file has none.
-fn read_file(feed: &mut [u8]) -> usize
+fn read_file(rt: &HostRuntime, feed: &mut [u8]) -> usize
     ensures { IsPrefixLen result feed.new }
 {
-    let file = os::open_read(b"timetable.bin");
-    if file < 0 {
+    let Ok(mut file) = File::open(rt, "timetable.bin") else {
         return 0;
+    };
+    let mut n: usize = 0;
+    while n < feed.len() {
+        let got = file.read(&mut feed[n..]).unwrap_or(0);
+        if got == 0 {
+            return n;
+        }
+        n += got;
     }
-    let size = io::read_full(file, feed);
-    libc::close(file);
-    size
+    n
 }
 
 // What standard input holds up to its first newline, or as far as a line can go.
@@ -62,7 +72,7 @@ fn read_line(input: &mut [u8]) -> usize
 {
     let mut n: usize = 0;
     while n < input.len() {
-        let got = io::read_full(STDIN_FILENO, &mut input[n..n + 1]);
+        let got = io::read_full(STDIN, &mut input[n..n + 1]);
         if got == 0 {
             return n;
         }
@@ -75,12 +85,12 @@ fn read_line(input: &mut [u8]) -> usize
     n
 }
 
-fn main() {
+fn main(rt: HostRuntime) {
     let mut feed: [u8; 17870] = [0; 17870];
     let mut input: [u8; 81] = [0; 81];
     let mut out: [u8; 4311] = [0; 4311];
-    let size = read_file(&mut feed);
+    let size = read_file(&rt, &mut feed);
     let line = read_line(&mut input);
     let n = reply(&feed[..size], &input[..line], &mut out);
-    io::write_all(STDOUT_FILENO, &out[..n]);
+    io::write_all(STDOUT, &out[..n]);
 }

@@ -3,7 +3,7 @@ use Rattle.std.proofs.Common.{◌≡◌, ◌-◌, length}
 use Rattle.feeds_main.proofs.damage.damages_of.Given as goal
 
 abbrev pub invariant-loop-i : goal.invariant-loop-i
-invariant-loop-i l = length l.i ≡ 16
+invariant-loop-i l = length l.counts ≡ 16
 
 abbrev pub decreases-loop-i : goal.decreases-loop-i
-decreases-loop-i l = 306 - i
+decreases-loop-i l = 306 - l.i

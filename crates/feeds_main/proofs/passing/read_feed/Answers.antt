@@ -3,7 +3,6 @@ use Rattle.std.proofs.Common.{◌≡◌, ℕ, ◌≤◌, List, ◌++◌, length,
 use lib.ListN.{length-replicate}
 use Rattle.feeds_main.proofs.passing.read_feed.Goals as goal
 
--- PENDING
 whole : (n x k : ℕ) (ys : List ℕ) → k ≤ n → length ys ≡ length (take k (replicate n x)) → n ≡ length (ys ++ drop k (replicate n x))
 whole n x k ys l e =
     let r : List ℕ = replicate n x in
@@ -26,16 +25,16 @@ pub slice_bounds-read-end-5 : goal.slice_bounds-read-end-5
 slice_bounds-read-end-5 c = sym (length-take-le _ _ (search rules))
 
 pub slice_bounds-joined-end : goal.slice_bounds-joined-end
-slice_bounds-joined-end c = whole 256 _ _ c.read-answer.last.1.0 c.size.ensures c.read-answer.auto.1.0
+slice_bounds-joined-end c = whole 256 _ _ c.read-answer.new.routes c.size.ensures c.read-answer.auto.routes
 
 pub slice_bounds-joined-end-2 : goal.slice_bounds-joined-end-2
-slice_bounds-joined-end-2 c = whole 2048 _ _ c.read-answer.last.1.1.0 c.size-2.ensures c.read-answer.auto.1.1.0
+slice_bounds-joined-end-2 c = whole 2048 _ _ c.read-answer.new.positions c.size-2.ensures c.read-answer.auto.positions
 
 pub slice_bounds-joined-end-3 : goal.slice_bounds-joined-end-3
-slice_bounds-joined-end-3 c = whole 2048 _ _ c.read-answer.last.1.1.1.0 c.size-3.ensures c.read-answer.auto.1.1.1.0
+slice_bounds-joined-end-3 c = whole 2048 _ _ c.read-answer.new.arrivals c.size-3.ensures c.read-answer.auto.arrivals
 
 pub slice_bounds-joined-end-4 : goal.slice_bounds-joined-end-4
-slice_bounds-joined-end-4 c = whole 2048 _ _ c.read-answer.last.1.1.1.1.0 c.size-4.ensures c.read-answer.auto.1.1.1.1.0
+slice_bounds-joined-end-4 c = whole 2048 _ _ c.read-answer.new.departures c.size-4.ensures c.read-answer.auto.departures
 
 pub slice_bounds-joined-end-5 : goal.slice_bounds-joined-end-5
-slice_bounds-joined-end-5 c = whole 1536 _ _ c.read-answer.last.1.1.1.1.1.0 c.size-5.ensures c.read-answer.auto.1.1.1.1.1.0
+slice_bounds-joined-end-5 c = whole 1536 _ _ c.read-answer.new.walks c.size-5.ensures c.read-answer.auto.walks
