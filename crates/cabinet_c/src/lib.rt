@@ -1,0 +1,119 @@
+// The cabinet's four functions for C: each calls that of `cabinet` and promises the same.
+#![tactic(auto)]
+
+ghost use Rattle.std.specs.Prelude.{◌≡◌, [], ◌∷◌, length};
+ghost use Rattle.paper.specs.Timetable.{lent};
+ghost use Rattle.paper.specs.Reply.{check_of, read_into, reply_of};
+ghost use Rattle.packing.specs.Packed.{checked_number};
+ghost use Rattle.cabinet.specs.Calls.{heads_by, question_by, Reads, Writes, Asks};
+
+// Checks tables 1 to 5. Done: the work limit.
+#[unsafe(no_mangle)]
+pub extern "C" fn pospolarku_check(
+    stops: u32,
+    route_count: u32,
+    walk_count: u32,
+    routes: &[u32],
+    positions: &[u32],
+    arrivals: &[u32],
+    departures: &[u32],
+    walks: &[u32],
+) -> u64
+    ensures { result ≡ checked_number (check_of (lent (heads_by stops route_count walk_count) routes.entry positions.entry arrivals.entry departures.entry walks.entry)) }
+{
+    cabinet::pospolarku_check(
+        stops,
+        route_count,
+        walk_count,
+        routes,
+        positions,
+        arrivals,
+        departures,
+        walks,
+    )
+}
+
+// Reads a feed into tables 1 to 5. Done: the head counts.
+#[unsafe(no_mangle)]
+pub extern "C" fn pospolarku_read(
+    feed: &[u8],
+    routes: &mut [u32],
+    positions: &mut [u32],
+    arrivals: &mut [u32],
+    departures: &mut [u32],
+    walks: &mut [u32],
+) -> u64
+    ensures { Reads (read_into (length routes.old ∷ length positions.old ∷ length arrivals.old ∷ length departures.old ∷ length walks.old ∷ []) feed.now) result routes.old routes.new positions.old positions.new arrivals.old arrivals.new departures.old departures.new walks.old walks.new }
+{
+    cabinet::pospolarku_read(feed, routes, positions, arrivals, departures, walks)
+}
+
+// Writes the feed of tables 1 to 5. Done: its bytes.
+#[unsafe(no_mangle)]
+pub extern "C" fn pospolarku_write(
+    stops: u32,
+    route_count: u32,
+    walk_count: u32,
+    routes: &[u32],
+    positions: &[u32],
+    arrivals: &[u32],
+    departures: &[u32],
+    walks: &[u32],
+    out: &mut [u8],
+) -> u64
+    ensures { Writes (lent (heads_by stops route_count walk_count) routes.entry positions.entry arrivals.entry departures.entry walks.entry) result out.old out.new }
+{
+    cabinet::pospolarku_write(
+        stops,
+        route_count,
+        walk_count,
+        routes,
+        positions,
+        arrivals,
+        departures,
+        walks,
+        out,
+    )
+}
+
+// Answers a question over tables 1 to 5: labels, legs and entries. Answered: the work.
+#[unsafe(no_mangle)]
+pub extern "C" fn pospolarku_ask(
+    stops: u32,
+    route_count: u32,
+    walk_count: u32,
+    routes: &[u32],
+    positions: &[u32],
+    arrivals: &[u32],
+    departures: &[u32],
+    walks: &[u32],
+    labels: &mut [u32],
+    legs: &mut [u32],
+    start: u32,
+    target: u32,
+    time: u32,
+    limit: u32,
+    budget: u32,
+    entries: &mut [u32],
+) -> u64
+    ensures { Asks (reply_of (lent (heads_by stops route_count walk_count) routes.entry positions.entry arrivals.entry departures.entry walks.entry) labels.old legs.old (question_by start target time limit budget)) result labels.new legs.new entries.old entries.new }
+{
+    cabinet::pospolarku_ask(
+        stops,
+        route_count,
+        walk_count,
+        routes,
+        positions,
+        arrivals,
+        departures,
+        walks,
+        labels,
+        legs,
+        start,
+        target,
+        time,
+        limit,
+        budget,
+        entries,
+    )
+}
