@@ -26,7 +26,8 @@ fn put_walked(out: &mut [u8], at: usize, stop: u32) -> usize
     requires { at + 10 ≤ length out.old }
     ensures { Put (walked_word stop) 10 at out.old out.new result }
 {
-    if stop == MARK {
+    let none = stop == MARK;
+    if none {
         put_byte(out, at, b'-')
     } else {
         put_decimal(out, at, stop)

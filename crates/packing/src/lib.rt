@@ -56,6 +56,7 @@ pub fn verdict_number(verdict: Verdict) -> u64
 }
 
 // The count and nine pairs of rides and arrival, if there is room for all nineteen.
+#[tactic(auto, using(crate::proofs::Entries::short_kept))]
 pub fn put_entries(count: u32, listed: [Entry; 9], entries: &mut [u32])
     ensures { entries.new ≡ entries_after count listed entries.old }
 {

@@ -12,7 +12,7 @@ use lib.Dec.{eqb}
 use borrow.Author.Tests.{le-leb, eq-eqb}
 use Rattle.laws.specs.Below.{iterate, sum_below}
 use Rattle.laws.specs.Lists.{pieces, part}
-use Rattle.laws.specs.Fields.{byte, two, three, two_bytes}
+use Rattle.laws.specs.Fields.{byte, two, two_bytes}
 use Rattle.laws.proofs.Below.{sum_below_at, sum_below_mono}
 use Rattle.laws.proofs.Lists.{length-part_of, part_is, length-pieces-sum}
 use Rattle.laws.proofs.Fields.{Has, has_left, has_right, has_at, has_byte, has_first, has_piece, has_equal_piece, read2}

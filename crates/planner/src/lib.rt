@@ -29,6 +29,7 @@ fn refuse(number: u32, place: u32) -> Answer
 }
 
 // What the search found: 14 if there is no entry, else the answer.
+#[tactic(auto, unfolding(crate::specs::Asked::answer_from))]
 fn answer(work: u32, listed: Listed) -> Answer
     ensures { result ≡ answer_from work listed.count listed.entries }
 {
@@ -45,6 +46,7 @@ fn answer(work: u32, listed: Listed) -> Answer
 }
 
 // 6: the lowest of tables 1 to 7 that is too short.
+#[tactic(auto, using(crate::proofs::Short::short_five, crate::proofs::Short::short_labels, crate::proofs::Short::short_legs, crate::proofs::Short::none_short))]
 fn short_table(
     routes: usize,
     positions: usize,

@@ -40,6 +40,7 @@ fn seconds_to(walks: &[u32], count: u32, p: u32) -> [u32; 256]
 
 // The way number `way` in to p at v: 0 stays there, s + 1 walks from the stop s.
 // No ride comes to s before the next row's label: where a walk from there would end after v the way is shut.
+#[tactic(auto, using(crate::proofs::Leaves::way_stays, crate::proofs::Leaves::way_shut, crate::proofs::Leaves::way_long, crate::proofs::Leaves::way_late, crate::proofs::Leaves::way_open))]
 fn way_to(seconds: &[u32; 256], next: &[u32], way: u32, p: u32, v: u32) -> Way
     requires { WayIn next.now way }
     ensures { result ≡ way_of seconds.now next.now p v way }

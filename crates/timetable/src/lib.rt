@@ -34,6 +34,7 @@ pub struct Totals {
 }
 
 // 6: the lowest of tables 1 to 5 that is too short, by their lengths.
+#[tactic(auto, unfolding(crate::specs::Places::short_place, laws::specs::Below::first_found, laws::specs::Below::given, laws::specs::Below::or_else))]
 pub fn short_table(
     routes: usize,
     positions: usize,

@@ -30,9 +30,9 @@ loop-k-preserved c =
     let f = c.loop-k.invariant in
     let at = c.label_at-arrival.ensures in
     elim c.if-arrival-best.branch [
-      then-arrival-best w ↦
-        rw (w.legs-is, w.listed-is, w.best-is) (listing_take f c.loop-k-test.true at w.if-arrival-best.true w.trace.ensures w.list_also-listed.ensures)
-    | else-arrival-best w ↦ rw (w.legs-is, w.listed-is, w.best-is) (listing_skip f c.loop-k-test.true at w.if-arrival-best.false)
+      | then-arrival-best w ↦
+          rw (w.legs-is, w.listed-is, w.best-is) (listing_take f c.loop-k-test.true at w.if-arrival-best.true w.trace.ensures w.list_also-listed.ensures)
+      | else-arrival-best w ↦ rw (w.legs-is, w.listed-is, w.best-is) (listing_skip f c.loop-k-test.true at w.if-arrival-best.false)
     ]
 
 pub shape_of-legs : goal.shape_of-legs

@@ -2,32 +2,29 @@ use mathlib.Core.Path.{◌∙◌}
 use native.Mathlib.Omega.{arith}
 use lib.ListN.{length, set, length-set}
 use Prim.Native.Nat.{◌≤◌}
-use Rattle.packing.proofs.Entries.{storing_start, storing_more, short_kept, storing_end}
+use Rattle.packing.proofs.Entries.{storing_start, storing_more, storing_end}
 use Rattle.packing.proofs.put_entries.Goals as goal
 
-pub returns-then-entries-lt19 : goal.returns-then-entries-lt19
-returns-then-entries-lt19 c = short_kept _ _ c.args.entries.now c.if-entries-lt19.true
-
 pub loop-i-init : goal.loop-i-init
-loop-i-init c = storing_start _ c.args.listed c.args.entries.now c.if-entries-lt19.false
+loop-i-init c = storing_start _ c.args.listed c.args.entries.now (omega arith)
 
 pub bounds-entries-i : goal.bounds-entries-i
 bounds-entries-i c =
-    let room : 19 ≤ length (set c.args.entries.now 0 c.args.count) = rw length-set (omega (arith, c.if-entries-lt19.false)) in
+    let room : 19 ≤ length (set c.args.entries.now 0 c.args.count) = rw length-set (omega arith) in
     omega (arith, c.loop-i.invariant.kept, room)
 
 pub bounds-entries-i-in-loop-i : goal.bounds-entries-i-in-loop-i
 bounds-entries-i-in-loop-i c =
-    let room : 19 ≤ length (set c.args.entries.now 0 c.args.count) = rw length-set (omega (arith, c.if-entries-lt19.false)) in
+    let room : 19 ≤ length (set c.args.entries.now 0 c.args.count) = rw length-set (omega arith) in
     rw length-set (omega (arith, c.loop-i.invariant.kept, room))
 
 pub loop-i-preserved : goal.loop-i-preserved
 loop-i-preserved c =
-    let room : 19 ≤ length (set c.args.entries.now 0 c.args.count) = rw length-set (omega (arith, c.if-entries-lt19.false)) in
+    let room : 19 ≤ length (set c.args.entries.now 0 c.args.count) = rw length-set (omega arith) in
     storing_more _ _ _ _ _ c.loop-i.invariant c.loop-i-test.true room
 
 pub shape_of-entries : goal.shape_of-entries
 shape_of-entries c = c.loop-i.invariant.kept ∙ length-set c.args.entries.now 0 c.args.count
 
 pub returns : goal.returns
-returns c = storing_end _ _ c.args.entries.now _ _ c.if-entries-lt19.false c.loop-i.invariant c.loop-i-test.false
+returns c = storing_end _ _ c.args.entries.now _ _ (omega arith) c.loop-i.invariant c.loop-i-test.false

@@ -65,8 +65,7 @@ loop-i-smaller c = falls _ _ c.loop-i-test.true
 pub loop-i-preserved : goal.loop-i-preserved
 loop-i-preserved c =
     let look : Looking (tables c.args.heads c.args.routes.now c.args.positions.now c.args.arrivals.now c.args.departures.now c.args.walks.now) c.args.row.now c.loop-r.r c.extent_of-route.result = record { fit = c.requires.fit; labelled = c.requires.labelled; route< = c.loop-r-test.true; extent = c.extent_of-route.ensures } in
-    let left_at : c.loop-l.l < c.extent_of-route.result.n = le_trans c.loop-l-test.true (past_in _ _ _ c.past_visit-past.ensures) in
-    (
+    let left_at : c.loop-l.l < c.extent_of-route.result.n = le_trans c.loop-l-test.true (past_in _ _ _ c.past_visit-past.ensures) in (
       omega (arith, c.loop-i-test.true),
       nothing_more _ _ c.loop-i.invariant.1
           (board_miss look _ _ c.loop-j-test.true _ left_at _ c.loop-i-test.true c.boards.ensures c.if-boards.false),
@@ -80,19 +79,18 @@ loop-l-preserved c =
     let look : Looking (tables c.args.heads c.args.routes.now c.args.positions.now c.args.arrivals.now c.args.departures.now c.args.walks.now) c.args.row.now c.loop-r.r c.extent_of-route.result = record { fit = c.requires.fit; labelled = c.requires.labelled; route< = c.loop-r-test.true; extent = c.extent_of-route.ensures } in
     let left_at : c.loop-l.l < c.extent_of-route.result.n = le_trans c.loop-l-test.true (past_in _ _ _ c.past_visit-past.ensures) in
     nothing_more _ _ c.loop-l.invariant
-        (elim c.if-ends.branch [
-          then-ends+else-loop-i-test w ↦
-            leave_none look _ _ _ _ _ c.loop-j-test.true _ left_at _ c.ends.ensures w.if-ends.true (le_antisymm w.loop-i.invariant.0 w.loop-i-test.false) w.loop-i.invariant.1
-        | else-ends w ↦ leave_miss look _ _ _ _ _ c.loop-j-test.true _ left_at c.ends.ensures w.if-ends.false
-        ])
+    (elim c.if-ends.branch [
+      | then-ends+else-loop-i-test w ↦
+          leave_none look _ _ _ _ _ c.loop-j-test.true _ left_at _ c.ends.ensures w.if-ends.true (le_antisymm w.loop-i.invariant.0 w.loop-i-test.false) w.loop-i.invariant.1
+      | else-ends w ↦ leave_miss look _ _ _ _ _ c.loop-j-test.true _ left_at c.ends.ensures w.if-ends.false
+    ])
 
 pub loop-j-smaller : goal.loop-j-smaller
 loop-j-smaller c = falls _ _ c.loop-j-test.true
 
 pub loop-j-preserved : goal.loop-j-preserved
 loop-j-preserved c =
-    let look : Looking (tables c.args.heads c.args.routes.now c.args.positions.now c.args.arrivals.now c.args.departures.now c.args.walks.now) c.args.row.now c.loop-r.r c.extent_of-route.result = record { fit = c.requires.fit; labelled = c.requires.labelled; route< = c.loop-r-test.true; extent = c.extent_of-route.ensures } in
-    (
+    let look : Looking (tables c.args.heads c.args.routes.now c.args.positions.now c.args.arrivals.now c.args.departures.now c.args.walks.now) c.args.row.now c.loop-r.r c.extent_of-route.result = record { fit = c.requires.fit; labelled = c.requires.labelled; route< = c.loop-r-test.true; extent = c.extent_of-route.ensures } in (
       omega (arith, c.loop-j-test.true),
       nothing_more _ _ c.loop-j.invariant.1
           (trip_none look _ _ _ _ _ c.loop-j-test.true _ c.past_visit-past.ensures c.loop-l-test.false c.loop-l.invariant),
@@ -103,13 +101,12 @@ loop-r-smaller c = falls _ _ c.loop-r-test.true
 
 pub loop-r-preserved : goal.loop-r-preserved
 loop-r-preserved c =
-    let look : Looking (tables c.args.heads c.args.routes.now c.args.positions.now c.args.arrivals.now c.args.departures.now c.args.walks.now) c.args.row.now c.loop-r.r c.extent_of-route.result = record { fit = c.requires.fit; labelled = c.requires.labelled; route< = c.loop-r-test.true; extent = c.extent_of-route.ensures } in
-    (
+    let look : Looking (tables c.args.heads c.args.routes.now c.args.positions.now c.args.arrivals.now c.args.departures.now c.args.walks.now) c.args.row.now c.loop-r.r c.extent_of-route.result = record { fit = c.requires.fit; labelled = c.requires.labelled; route< = c.loop-r-test.true; extent = c.extent_of-route.ensures } in (
       omega (arith, c.loop-r-test.true),
       nothing_more _ _ c.loop-r.invariant.1
           (elim c.if-first-route.branch [
-            then-first-route+else-loop-j-test w ↦ route_none look _ _ _ _ _ (le_antisymm w.loop-j.invariant.0 w.loop-j-test.false) w.loop-j.invariant.1
-          | else-first-route w ↦ not_visited look _ _ _ _ c.first_visit-first.ensures w.if-first-route.false
+            | then-first-route+else-loop-j-test w ↦ route_none look _ _ _ _ _ (le_antisymm w.loop-j.invariant.0 w.loop-j-test.false) w.loop-j.invariant.1
+            | else-first-route w ↦ not_visited look _ _ _ _ c.first_visit-first.ensures w.if-first-route.false
           ]),
     )
 
@@ -118,9 +115,9 @@ search-preserved c =
     let more = nothing_more _ _ c.search.invariant.1 in (
       omega (arith, c.if-heads-way.false),
       elim c.match-way_to.branch [
-        in-Open+else-loop-r-test w ↦
-          more (way_none _ _ _ _ _ _ _ c.way_to.ensures _ _ _ _ w.in-Open.is (le_antisymm w.loop-r.invariant.0 w.loop-r-test.false) w.loop-r.invariant.1)
-      | in_default w ↦ more (way_miss _ _ _ _ _ _ _ c.way_to.ensures w.in_default.is)
+        | in-Open+else-loop-r-test w ↦
+            more (way_none _ _ _ _ _ _ _ c.way_to.ensures _ _ _ _ w.in-Open.is (le_antisymm w.loop-r.invariant.0 w.loop-r-test.false) w.loop-r.invariant.1)
+        | in_default w ↦ more (way_miss _ _ _ _ _ _ _ c.way_to.ensures w.in_default.is)
       ],
     )
 

@@ -29,8 +29,8 @@ pub loop-w-preserved : goal.loop-w-preserved
 loop-w-preserved c = (
   search rules,
   elim c.if-walks-at.branch [
-    then-walks-at w ↦ w.seconds-is ∙ seconds_store _ _ _ _ c.requires c.loop-w-test.true c.loop-w.invariant.1 w.if-walks-at.true
-  | else-walks-at w ↦ w.seconds-is ∙ seconds_keep _ _ _ _ c.requires c.loop-w-test.true c.loop-w.invariant.1 w.if-walks-at.false
+    | then-walks-at w ↦ w.seconds-is ∙ seconds_store _ _ _ _ c.requires c.loop-w-test.true c.loop-w.invariant.1 w.if-walks-at.true
+    | else-walks-at w ↦ w.seconds-is ∙ seconds_keep _ _ _ _ c.requires c.loop-w-test.true c.loop-w.invariant.1 w.if-walks-at.false
   ],
 )
 

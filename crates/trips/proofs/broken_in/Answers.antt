@@ -69,11 +69,10 @@ pub loop-j-smaller : goal.loop-j-smaller
 loop-j-smaller c = falls _ _ c.loop-j-test.true
 
 pub loop-j-preserved : goal.loop-j-preserved
-loop-j-preserved c =
-    (
-      omega (arith, c.loop-j-test.true),
-      trip_passed _ _ _ _ c.loop-i-test.false c.loop-i.invariant.0 c.loop-j.invariant.1 c.loop-i.invariant.1,
-    )
+loop-j-preserved c = (
+  omega (arith, c.loop-j-test.true),
+  trip_passed _ _ _ _ c.loop-i-test.false c.loop-i.invariant.0 c.loop-j.invariant.1 c.loop-i.invariant.1,
+)
 
 pub returns : goal.returns
 returns c = event_none _ _ _ c.loop-j-test.false c.loop-j.invariant.0 c.loop-j.invariant.1

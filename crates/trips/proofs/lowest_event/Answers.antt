@@ -25,11 +25,10 @@ pub loop-r-smaller : goal.loop-r-smaller
 loop-r-smaller c = falls _ _ c.loop-r-test.true
 
 pub loop-r-preserved : goal.loop-r-preserved
-loop-r-preserved c =
-    (
-      omega (arith, c.loop-r-test.true),
-      route_more c.args.routes.now _ _ _ _ c.extent_of-route.ensures c.loop-r.invariant.1 (sym c.in_default.is ∙ c.broken_at.ensures),
-    )
+loop-r-preserved c = (
+  omega (arith, c.loop-r-test.true),
+  route_more c.args.routes.now _ _ _ _ c.extent_of-route.ensures c.loop-r.invariant.1 (sym c.in_default.is ∙ c.broken_at.ensures),
+)
 
 pub returns : goal.returns
 returns c = route_none _ _ _ _ _ _ c.loop-r-test.false c.loop-r.invariant.0 c.loop-r.invariant.1

@@ -1,5 +1,4 @@
 -- `feed::body::read_body` meets its contract: what the two clearings leave.
-use mathlib.Core.Path.{◌∙◌}
 use Rattle.feed.proofs.Judge.{fill_room, filled_again, leaves_bad, leaves_good}
 use Rattle.feed.proofs.body.read_body.Goals as goal
 

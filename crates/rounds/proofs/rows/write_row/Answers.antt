@@ -17,10 +17,10 @@ bounds-labels-base-in-loop-s c =
 pub loop-s-preserved : goal.loop-s-preserved
 loop-s-preserved c =
     elim c.if-new-old.branch [
-      then-new-old w ↦
-        rw w.improved-is (writing_step _ _ _ _ _ c.requires c.loop-s.invariant c.loop-s-test.true c.smaller-new.ensures c.smaller.ensures (improves_now w.if-new-old.true))
-    | else-new-old w ↦
-        rw w.improved-is (writing_step _ _ _ _ _ c.requires c.loop-s.invariant c.loop-s-test.true c.smaller-new.ensures c.smaller.ensures (improves_not w.if-new-old.false))
+      | then-new-old w ↦
+          rw w.improved-is (writing_step _ _ _ _ _ c.requires c.loop-s.invariant c.loop-s-test.true c.smaller-new.ensures c.smaller.ensures (improves_now w.if-new-old.true))
+      | else-new-old w ↦
+          rw w.improved-is (writing_step _ _ _ _ _ c.requires c.loop-s.invariant c.loop-s-test.true c.smaller-new.ensures c.smaller.ensures (improves_not w.if-new-old.false))
     ]
 
 pub shape_of-labels : goal.shape_of-labels

@@ -1,7 +1,4 @@
 use borrow.Author.Rules.{rules}
-use Prim.Native.Nat.{ℕ, ◌+◌}
-use mathlib.Core.List.{List}
-use Rattle.laws.specs.Fields.{byte}
 use Rattle.paper.specs.Reading.{stops_at}
 use Rattle.route_records.proofs.Held.{putting_start, putting_step, putting_end}
 use Rattle.route_records.proofs.keep.keep_stops.Goals as goal

@@ -15,13 +15,13 @@ loop-k-init c = let a = c.args in boarding_start a.departures.now a.n a.i a.c a.
 pub overflow_mul-cell : goal.overflow_mul-cell
 overflow_mul-cell c =
     let within : (c.loop-k.k - 1) * c.args.n + c.args.i < length c.args.departures.now =
-        cell_in c.args.departures.now c.args.n c.args.c (c.loop-k.k - 1) c.args.i (omega (arith, c.loop-k.invariant.below)) c.requires.inside c.requires.size in
+    cell_in c.args.departures.now c.args.n c.args.c (c.loop-k.k - 1) c.args.i (omega (arith, c.loop-k.invariant.below)) c.requires.inside c.requires.size in
     omega (arith, within)
 
 pub overflow_add-cell : goal.overflow_add-cell
 overflow_add-cell c =
     let within : (c.loop-k.k - 1) * c.args.n + c.args.i < length c.args.departures.now =
-        cell_in c.args.departures.now c.args.n c.args.c (c.loop-k.k - 1) c.args.i (omega (arith, c.loop-k.invariant.below)) c.requires.inside c.requires.size in
+    cell_in c.args.departures.now c.args.n c.args.c (c.loop-k.k - 1) c.args.i (omega (arith, c.loop-k.invariant.below)) c.requires.inside c.requires.size in
     omega (arith, within)
 
 pub overflow_add-work : goal.overflow_add-work
@@ -30,13 +30,13 @@ overflow_add-work c = omega (arith, c.loop-k.invariant.counted, c.requires.few)
 pub offset_bounds-departures-cell : goal.offset_bounds-departures-cell
 offset_bounds-departures-cell c =
     let within : (c.loop-k.k - 1) * c.args.n + c.args.i < length c.args.departures.now =
-        cell_in c.args.departures.now c.args.n c.args.c (c.loop-k.k - 1) c.args.i (omega (arith, c.loop-k.invariant.below)) c.requires.inside c.requires.size in
+    cell_in c.args.departures.now c.args.n c.args.c (c.loop-k.k - 1) c.args.i (omega (arith, c.loop-k.invariant.below)) c.requires.inside c.requires.size in
     omega (arith, within)
 
 pub bounds-departures-cell : goal.bounds-departures-cell
 bounds-departures-cell c =
     let within : (c.loop-k.k - 1) * c.args.n + c.args.i < length c.args.departures.now =
-        cell_in c.args.departures.now c.args.n c.args.c (c.loop-k.k - 1) c.args.i (omega (arith, c.loop-k.invariant.below)) c.requires.inside c.requires.size in
+    cell_in c.args.departures.now c.args.n c.args.c (c.loop-k.k - 1) c.args.i (omega (arith, c.loop-k.invariant.below)) c.requires.inside c.requires.size in
     within
 
 pub returns-then-departures-cell : goal.returns-then-departures-cell
