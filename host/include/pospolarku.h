@@ -1,4 +1,4 @@
-/* Pospolarku: reading, checking, writing and asking tram timetable feeds. Link with libcabinet.a (`rt staticlib cabinet`).
+/* Pospolarku: reading, checking, writing and asking tram timetable feeds. Link with libcabinet.a (`host/build` makes it).
  *
  * All words, numbers and places are those of document 01, the exact scope and rules. The functions are proved to answer every
  * input, however damaged; they keep nothing and have no other effect than what is said here.

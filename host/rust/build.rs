@@ -1,4 +1,4 @@
-//! Links libcabinet.a from the folder POSPOLARKU_LIB, or else from where `rt staticlib cabinet` puts it.
+//! Links libcabinet.a from the folder POSPOLARKU_LIB, or else from where `host/build` puts it.
 
 use std::{env, path::PathBuf};
 
@@ -13,7 +13,7 @@ fn main() {
     let archive = folder.join("libcabinet.a");
     println!("cargo::rerun-if-changed={}", archive.display());
     if !archive.exists() {
-        println!("cargo::error=no {}: run `rt staticlib cabinet`, set POSPOLARKU_LIB, or use --features stand-in", archive.display());
+        println!("cargo::error=no {}: run `host/build`, set POSPOLARKU_LIB, or use --features stand-in", archive.display());
     }
     println!("cargo::rustc-link-search=native={}", folder.display());
     println!("cargo::rustc-link-lib=static=cabinet");

@@ -12,7 +12,7 @@ pub struct Fields<'a> {
     pub at: usize,
 }
 
-// ---- on the slice and numbers: covered by the language's checker
+// ---- on the slice and numbers
 
 // The byte `off` behind `at`; past the feed's end it is 0.
 fn byte_at(feed: &[u8], at: usize, off: usize) -> u32
@@ -52,7 +52,7 @@ fn begins_at(feed: &[u8], at: usize, mark: usize) -> bool
     two_at(feed, at, 0) as usize == mark
 }
 
-// ---- on the reader: the checker covers no function over a struct that holds a slice, so each is proved by hand and only passes on
+// ---- on the reader: each only passes on
 
 // The reader of the record at `at`.
 pub fn fields_at<'a>(feed: &'a [u8], at: usize) -> Fields<'a>
@@ -84,7 +84,7 @@ impl<'a> Fields<'a> {
     }
 }
 
-// ---- with plain parameters, so that callers are covered
+// ---- the same with plain parameters
 
 pub fn begins_in(feed: &[u8], at: usize, mark: usize) -> bool
     ensures { result ≡ marked feed.now (length feed.now) at 2 (mark / 256) (mark % 256) }

@@ -157,11 +157,11 @@ module _ {T U : Tables} (A : Agree T U) where
   module _ (C : Counts T) where
     positions_in : (r : ℕ) → r < T.routes → first_position T r + n_of T r ≤ positions_to T T.routes
     unfolding positions_to
-    positions_in r l = omega (arith, (C.route r l).first_position_lem, sum_below_at T.routes r (n_of T) l)
+    positions_in r l = omega (arith, (C.route r l).first_position_is, sum_below_at T.routes r (n_of T) l)
 
     events_in : (r : ℕ) → r < T.routes → first_event T r + n_of T r * m_of T r ≤ events_to T T.routes
     unfolding events_to
-    events_in r l = omega (arith, (C.route r l).first_event_lem, sum_below_at T.routes r (λ r. n_of T r * m_of T r) l)
+    events_in r l = omega (arith, (C.route r l).first_event_is, sum_below_at T.routes r (λ r. n_of T r * m_of T r) l)
 
     part2_same : (r : ℕ) → r < T.routes
         → part (first_position T r) (first_position T r + n_of T r) T.t2 ≡ part (first_position U r) (first_position U r + n_of U r) U.t2

@@ -131,8 +131,8 @@ module _ (T : Tables) where
           n≤ = (route r l).counts.n≤;
           m≥ = (route r l).counts.m≥;
           m≤ = (route r l).counts.m≤;
-          first_position_lem = (route r l).first_position_lem;
-          first_event_lem = (route r l).first_event_lem;
+          first_position_is = (route r l).first_position_is;
+          first_event_is = (route r l).first_event_is;
         };
         trips≤ = counts_trips x;
         events≤ = counts_events x;
@@ -165,8 +165,8 @@ module _ (T : Tables) where
           trips≤ = omega (arith, sum_below_at T.routes r (m_of T) l, c.trips≤);
           events≤ = omega (arith, sum_below_at T.routes r (λ q. n_of T q * m_of T q) l, c.events≤);
         };
-        first_position_lem = R.first_position_lem;
-        first_event_lem = R.first_event_lem;
+        first_position_is = R.first_position_is;
+        first_event_is = R.first_event_is;
       }
 
   pub counts_of : Counts T → CountsUnbroken T

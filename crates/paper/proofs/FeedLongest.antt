@@ -106,8 +106,8 @@ route_right r l =
       n≤ = omega (arith, n_is r l);
       m≥ = omega (arith, m_is r l);
       m≤ = omega (arith, m_is r l);
-      first_position_lem = row_at r 2 l (omega arith) ∙ sym (positions_is r (omega arith));
-      first_event_lem = row_at r 3 l (omega arith) ∙ sym (events_is r (omega arith));
+      first_position_is = row_at r 2 l (omega arith) ∙ sym (positions_is r (omega arith));
+      first_event_is = row_at r 3 l (omega arith) ∙ sym (events_is r (omega arith));
     }
 
 arrive_is : (r j i : ℕ) → arrive_at (route_of fullest r) j i ≡ 0

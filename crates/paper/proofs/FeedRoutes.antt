@@ -192,8 +192,8 @@ module _ (f : List ℕ) (B : (i : ℕ) → byte f i < 256) (e : ℕ) (room : e �
           n≤ = c.n≤;
           m≥ = c.m≥;
           m≤ = c.m≤;
-          first_position_lem = row_p n m s ∙ u.n2;
-          first_event_lem = row_v n m s ∙ u.n3;
+          first_position_is = row_p n m s ∙ u.n2;
+          first_event_is = row_v n m s ∙ u.n3;
         }
 
     upto_step : Upto f T (suc k) v

@@ -71,8 +71,8 @@ module _ (T : Tables) (h : CountsUnbroken T) (up : ℕ → ℕ) (rise : (a b : �
   across : (r s j i k l : ℕ) → r < s → s < T.routes → j < trips r → i < n_of T r → number r j i < number s k l
   unfolding event_of events_to
   across r s j i k l lt b lj li =
-      let a = (routes_right T h r (omega arith)).first_event_lem in
-      let d = (routes_right T h s b).first_event_lem in
+      let a = (routes_right T h r (omega arith)).first_event_is in
+      let d = (routes_right T h s b).first_event_is in
       omega (arith, cell_in (n_of T r) (m_of T r) (up j) i (fit r j lj) li, sum_below_at s r (λ q. n_of T q * m_of T q) lt)
 
   later_trip : (r j k i l : ℕ) → j < k → i < n_of T r → number r j i < number r k l

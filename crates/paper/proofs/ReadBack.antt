@@ -60,7 +60,7 @@ module _ (T : Tables) (C : Counts T) (E : Exact T) where
   routes_mono k l = rw (length-pieces-sum k (route_bytes T), length-pieces-sum T.routes (route_bytes T)) (sum_below_mono k T.routes _ l)
 
   stops_fit : (r : ℕ) → r < T.routes → first_position T r + n_of T r ≤ length T.t2
-  stops_fit r l = omega (arith, (C.route r l).first_position_lem, positions_at r l, E.positions)
+  stops_fit r l = omega (arith, (C.route r l).first_position_is, positions_at r l, E.positions)
 
   module _ (f : List ℕ) (e : ℕ) (room : 9 + length (routes_bytes T T.routes) ≤ e) (has : Has f 9 (routes_bytes T T.routes)) where
     route_at_lem : (r : ℕ) → r < T.routes → Has f (9 + length (routes_bytes T r)) (route_bytes T r)
@@ -90,20 +90,20 @@ module _ (T : Tables) (C : Counts T) (E : Exact T) where
         let l3 : length (take (events_to T r) T.t3) ≡ events_to T r = length-take-le _ T.t3 (omega (arith, E.arrivals)) in
         let g : counted n m (trips_to T r) (length (take (events_to T r) T.t3)) ≡ true = rw l3 (counted_whole n m _ _ (route_of_lem T C r l).counts) in
         let hv : Has f (at + 5 + n) (pieces m (λ j. trip_bytes T n (events_to T r + j * n)))
-        = subst (λ (v : ℕ). Has f (at + 5 + n) (pieces m (λ j. trip_bytes T n (v + j * n)))) R.first_event_lem (has_at f _ _ _ (ap (λ (k : ℕ). at + 5 + k) ls) ht) in
+        = subst (λ (v : ℕ). Has f (at + 5 + n) (pieces m (λ j. trip_bytes T n (v + j * n)))) R.first_event_is (has_at f _ _ _ (ap (λ (k : ℕ). at + 5 + k) ls) ht) in
         let q : iterate m (trip_at f e n) (record { bad = 0; at = at + 5 + n; t3 = take (events_to T r) T.t3; t4 = take (events_to T r) T.t4 })
         ≡ record { bad = 0; at = at + 5 + n + (2 + 6 * n) * m; t3 = take (events_to T r + m * n) T.t3; t4 = take (events_to T r + m * n) T.t4 }
         = trips_read T f e n (events_to T r) m (at + 5 + n) hv (omega arith) (omega (arith, E.arrivals)) (omega (arith, E.departures)) m (le_refl m) in
         let ea : at + 5 + n + (2 + 6 * n) * m ≡ 9 + length (routes_bytes T (suc r)) = omega arith in
         let ev : events_to T r + m * n ≡ events_to T (suc r) = omega arith in
-        let a : length (take (positions_to T r) T.t2) ≡ first_position T r = l2 ∙ sym R.first_position_lem in
-        let b : length (take (events_to T r) T.t3) ≡ first_event T r = l3 ∙ sym R.first_event_lem in
+        let a : length (take (positions_to T r) T.t2) ≡ first_position T r = l2 ∙ sym R.first_position_is in
+        let b : length (take (events_to T r) T.t3) ≡ first_event T r = l3 ∙ sym R.first_event_is in
         let four : r * 4 + 4 ≡ suc r * 4 = omega arith in
         let e1 : take (r * 4) T.t1 ++ (n ∷ m ∷ length (take (positions_to T r) T.t2) ∷ length (take (events_to T r) T.t3) ∷ []) ≡ take (suc r * 4) T.t1
         = (λ i. take (r * 4) T.t1 ++ (n ∷ m ∷ a i ∷ b i ∷ [])) ∙ take_four T.t1 (r * 4) (omega (arith, E.routes)) ∙ ap (λ (k : ℕ). take k T.t1) four in
         let e2 : take (positions_to T r) T.t2 ++ stops_at f (at + 5) n ≡ take (positions_to T (suc r)) T.t2
         = ap (λ (x : List ℕ). take (positions_to T r) T.t2 ++ x) (stops_are f (at + 5) stops n ls (has_left f (at + 5) stops _ hs) ∙ part_is T.t2 (first_position T r) n)
-        ∙ ap (λ (k : ℕ). take (positions_to T r) T.t2 ++ take n (drop k T.t2)) R.first_position_lem
+        ∙ ap (λ (k : ℕ). take (positions_to T r) T.t2 ++ take n (drop k T.t2)) R.first_position_is
         ∙ sym (take-add (positions_to T r) n T.t2) in
         route_is f e n m (prefix r) (has_byte f at _ h5 2 (omega arith)) (read2 f (at + 3) m (has_right f at (0x52 ∷ 0x54 ∷ n ∷ []) (two_bytes m) h5))
         ∙ route_good f e n m (prefix r) refl (marked_is f e at 5 0x52 0x54 _ h5 (omega arith)) g (omega arith)

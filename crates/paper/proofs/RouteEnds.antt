@@ -20,11 +20,11 @@ module _ (T : Tables) (s : Sound T) where
   module _ (r : ℕ) (l : r < T.routes) where
     pub route_positions : first_position T r + n_of T r ≤ positions_to T T.routes
     unfolding positions_to
-    route_positions = omega (arith, (s.route r l).first_position_lem, sum_below_at T.routes r (n_of T) l)
+    route_positions = omega (arith, (s.route r l).first_position_is, sum_below_at T.routes r (n_of T) l)
 
     pub route_events : first_event T r + n_of T r * m_of T r ≤ events_to T T.routes
     unfolding events_to
-    route_events = omega (arith, (s.route r l).first_event_lem, sum_below_at T.routes r (λ k. n_of T k * m_of T k) l)
+    route_events = omega (arith, (s.route r l).first_event_is, sum_below_at T.routes r (λ k. n_of T k * m_of T k) l)
 
 module _ (T : Tables) (fit : Fit T) (r : ℕ) (l : r < T.routes) where
   pub head_in : r * 4 + 3 < length T.t1

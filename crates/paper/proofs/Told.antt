@@ -50,7 +50,7 @@ module _ (T : Tables) where
   event_small : CountsUnbroken T → (r j i : ℕ) → r < T.routes → j < m_of T r → i < n_of T r → event_of T r j i < 2048
   unfolding event_of events_to
   event_small h r j i l m n =
-      let f = (routes_right T h r l).first_event_lem in
+      let f = (routes_right T h r l).first_event_is in
       let e = counts_events T h in
       omega (arith, f, e, sum_below_at T.routes r (λ k. n_of T k * m_of T k) l, cell_in (n_of T r) (m_of T r) j i m n)
 

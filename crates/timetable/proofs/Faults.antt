@@ -201,7 +201,7 @@ module _ (T : Tables) where
           n≤ = λ r l. (routes_right T unbroken r l).counts.n≤;
           m≥ = λ r l. (routes_right T unbroken r l).counts.m≥;
           m≤ = λ r l. (routes_right T unbroken r l).counts.m≤;
-          events≤ = λ r l. rw (routes_right T unbroken r l).first_event_lem (routes_right T unbroken r l).counts.events≤;
+          events≤ = λ r l. rw (routes_right T unbroken r l).first_event_is (routes_right T unbroken r l).counts.events≤;
         }
 
     pub positions_fit : {count : ℕ} → count ≡ positions_to (of_routes T.routes T.t1) T.routes → count ≤ length T.t2
