@@ -4,7 +4,6 @@ use native.Mathlib.Nat.{mul-le-mul}
 use Prim.Native.Nat.{ℕ, ◌+◌, ◌*◌, ◌≤◌}
 use Rattle.networks.proofs.dice.draw.Goals as goal
 
--- PENDING
 product : (a b : ℕ) → a ≤ 2147483647 → b ≤ 4294967296 → a * b ≤ 9223372032559808512
 product a b ha hb = mul-le-mul ha hb
 
