@@ -193,8 +193,8 @@ module _ (T : Tables) where
       let e : w - 1 + 1 ≡ w = omega arith in
       rw e at (s.rising (w - 1) (omega arith))
 
-  pub whole_of : Sound T → WholeUnbroken T
-  whole_of s =
+  pub whole_of_lem : Sound T → WholeUnbroken T
+  whole_of_lem s =
       record {
         stops = lowest_none _ (stop_broken T) (λ p l. stop_whole T p (s.stop< p l));
         times = times_none s;
@@ -204,7 +204,7 @@ module _ (T : Tables) where
       }
 
   pub whole_none : Sound T → first_broken whole_rules T ≡ none
-  whole_none s = unbroken_whole (whole_of s)
+  whole_none s = unbroken_whole (whole_of_lem s)
 
   pub none_of : Sound T → fault_of T ≡ none
   unfolding fault_of

@@ -28,8 +28,8 @@ abbrev replied : Tables → List ℕ → List ℕ → Question → Asking → Re
 replied T labels legs q a = record { answer = answer_as T q a; labels = labels_after T q a labels; legs = legs_after T q a legs }
 
 module _ (T : Tables) (labels legs : List ℕ) (q : Question) (r : Ready T labels legs q) where
-  asked_of : Asked T q
-  asked_of = record { start< = r.start<; target< = r.target<; time< = r.time< }
+  asked_of_lem : Asked T q
+  asked_of_lem = record { start< = r.start<; target< = r.target<; time< = r.time< }
 
   over_budget : q.budget < work_of T q → searched T q ≡ Marked (refusal 13 (passing_round T q))
   unfolding searched
@@ -52,9 +52,9 @@ module _ (T : Tables) (labels legs : List ℕ) (q : Question) (r : Ready T label
     where
       go : Dec (length (entries_of T q) ≡ 0) → Demand2 T q (reply_of T labels legs q)
       go (yes e) = rw (reply_is (no_entries h e)) (unfold answer_as labels_after legs_after in
-          (no_way_reply T q (usable_of T r.sound) asked_of labels legs r.sound.stops≤ r.limit≤ r.labels≥ e))
+          (no_way_reply T q (usable_of T r.sound) asked_of_lem labels legs r.sound.stops≤ r.limit≤ r.labels≥ e))
       go (no e) = rw (reply_is (some_entries h e)) (unfold answer_as labels_after legs_after in
-          (way_reply T q (usable_of T r.sound) asked_of labels legs r.sound.stops≤ r.limit≤ r.legs≥ e))
+          (way_reply T q (usable_of T r.sound) asked_of_lem labels legs r.sound.stops≤ r.limit≤ r.legs≥ e))
 
   -- ---- demand 3
 

@@ -236,9 +236,9 @@ module _ (T : Tables) (us : Usable T) (row : List ℕ) (p v : ℕ) where
           f.first (subst (λ (n : ℕ). Fits T row n (walk_seconds T (walk_between T n p)) v y.route y.trip y.leave y.board) (sym e) (walk_fits m y z))))
 
   -- what first_step finds is the tie rule's step
-  pub first_of : (g : Leg) → first_step T row p v ≡ some g → First T row p v g
+  pub first_of_lem : (g : Leg) → first_step T row p v ≡ some g → First T row p v g
   unfolding first_step walked_first
-  first_of g e = go (route_first T row p 0 v Stays) refl
+  first_of_lem g e = go (route_first T row p 0 v Stays) refl
     where
       go : (o : Option Leg) → route_first T row p 0 v Stays ≡ o → First T row p v g
       go (some k) h = by_ride g (found T row p 0 v Stays g (h ∙ (sym (or_else_some _ h) ∙ e)))
@@ -263,7 +263,7 @@ module _ (T : Tables) (us : Usable T) (row : List ℕ) (p v : ℕ) where
   first_step_lem x = go (first_step T row p v) refl
     where
       go : (o : Option Leg) → first_step T row p v ≡ o → (g : Leg) × (first_step T row p v ≡ some g) × First T row p v g
-      go (some g) e = (g, e, first_of g e)
+      go (some g) e = (g, e, first_of_lem g e)
       go none e = absurd (none_first e x)
 
 -- ---- there is one first last step

@@ -81,8 +81,8 @@ ahead≤ true = omega arith
 ahead≤ false = omega arith
 
 module _ (b : Bool) (n m : ℕ) (arrivals departures : List ℕ) (j i : ℕ) where
-  pub at_place : InRoute n m arrivals departures → j < m - ahead b → i < n → AtEvent (ahead b) n m arrivals departures j i
-  at_place h lj li = record { route = h; trip = omega arith; position = li }
+  pub at_place_lem : InRoute n m arrivals departures → j < m - ahead b → i < n → AtEvent (ahead b) n m arrivals departures j i
+  at_place_lem h lj li = record { route = h; trip = omega arith; position = li }
 
   pub at_sought : {s : Bool} → AtEvent (ahead b) n m arrivals departures j i → b ≡ s → AtEvent (ahead s) n m arrivals departures j i
   at_sought h e = rw e at h

@@ -21,7 +21,7 @@ pub offset_bounds-walks-at-2 : goal.offset_bounds-walks-at-2
 offset_bounds-walks-at-2 c = omega (arith, ((stands_lent _ _ c.requires)).small)
 
 pub bounds-walks-at-2 : goal.bounds-walks-at-2
-bounds-walks-at-2 c = let h = (stands_lent _ _ c.requires) in omega (arith, h.small, h.table)
+bounds-walks-at-2 c = let h = stands_lent _ _ c.requires in omega (arith, h.small, h.table)
 
 pub overflow_add-seconds : goal.overflow_add-seconds
 overflow_add-seconds c = omega (arith, ((stands_lent _ _ c.requires)).small)
@@ -30,7 +30,7 @@ pub offset_bounds-walks-at-3 : goal.offset_bounds-walks-at-3
 offset_bounds-walks-at-3 c = omega (arith, ((stands_lent _ _ c.requires)).small)
 
 pub bounds-walks-at-3 : goal.bounds-walks-at-3
-bounds-walks-at-3 c = let h = (stands_lent _ _ c.requires) in omega (arith, h.small, h.table)
+bounds-walks-at-3 c = let h = stands_lent _ _ c.requires in omega (arith, h.small, h.table)
 
 pub returns-then-from-stops : goal.returns-then-from-stops
 returns-then-from-stops c = walk_own _ _ c.if-from-stops.true
@@ -45,7 +45,7 @@ pub offset_bounds-walks-last : goal.offset_bounds-walks-last
 offset_bounds-walks-last c = omega (arith, ((stands_lent _ _ c.requires)).small)
 
 pub bounds-walks-last : goal.bounds-walks-last
-bounds-walks-last c = let h = (stands_lent _ _ c.requires) in omega (arith, h.small, h.table)
+bounds-walks-last c = let h = stands_lent _ _ c.requires in omega (arith, h.small, h.table)
 
 pub overflow_add-result : goal.overflow_add-result
 overflow_add-result c = omega (arith, ((stands_lent _ _ c.requires)).small)
@@ -54,7 +54,7 @@ pub offset_bounds-walks-last-then-w-gt0 : goal.offset_bounds-walks-last-then-w-g
 offset_bounds-walks-last-then-w-gt0 c = omega (arith, ((stands_lent _ _ c.requires)).small)
 
 pub bounds-walks-last-then-w-gt0 : goal.bounds-walks-last-then-w-gt0
-bounds-walks-last-then-w-gt0 c = let h = (stands_lent _ _ c.requires) in omega (arith, h.small, h.table)
+bounds-walks-last-then-w-gt0 c = let h = stands_lent _ _ c.requires in omega (arith, h.small, h.table)
 
 pub returns-then-w-gt0 : goal.returns-then-w-gt0
 unfolding rises

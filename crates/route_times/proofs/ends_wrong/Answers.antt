@@ -4,72 +4,63 @@ use borrow.Author.Count.{falls}
 use Rattle.route_times.proofs.Folds.{Stands}
 use Rattle.route_times.proofs.Times.{ends_start, ends_more, ends_told, last_in}
 use Rattle.route_times.proofs.ends_wrong.Goals as goal
+use Rattle.route_times.proofs.ends_wrong.Goals.{In-loop-j}
+
+-- the last event of this turn's trip stands in the tables
+last :
+    (c : In-loop-j)
+    → Stands c.args.arrivals.now c.args.departures.now (c.loop-j.j * c.args.n + (c.args.n - 1))
+last c = last_in _ _ _ _ _ c.requires c.loop-j-test.true
 
 pub loop-j-init : goal.loop-j-init
 loop-j-init c = (omega arith, ends_start _ _ _ _)
 
 pub overflow_mul-first : goal.overflow_mul-first
-overflow_mul-first c =
-    let last : Stands c.args.arrivals.now c.args.departures.now (c.loop-j.j * c.args.n + (c.args.n - 1)) = last_in _ _ _ _ _ c.requires c.loop-j-test.true in
-    omega (arith, last.small)
+overflow_mul-first c = omega (arith, (last (goal.at.overflow_mul-first c).In-loop-j).small)
 
 pub overflow_sub-last : goal.overflow_sub-last
 overflow_sub-last c = c.requires.n≥
 
 pub overflow_add-last : goal.overflow_add-last
-overflow_add-last c =
-    let last : Stands c.args.arrivals.now c.args.departures.now (c.loop-j.j * c.args.n + (c.args.n - 1)) = last_in _ _ _ _ _ c.requires c.loop-j-test.true in
-    omega (arith, last.small)
+overflow_add-last c = omega (arith, (last (goal.at.overflow_add-last c).In-loop-j).small)
 
 pub offset_bounds-arrivals-first : goal.offset_bounds-arrivals-first
 offset_bounds-arrivals-first c =
-    let last : Stands c.args.arrivals.now c.args.departures.now (c.loop-j.j * c.args.n + (c.args.n - 1)) = last_in _ _ _ _ _ c.requires c.loop-j-test.true in
-    omega (arith, last.small)
+    omega (arith, (last (goal.at.offset_bounds-arrivals-first c).In-loop-j).small)
 
 pub bounds-arrivals-first : goal.bounds-arrivals-first
 bounds-arrivals-first c =
-    let last : Stands c.args.arrivals.now c.args.departures.now (c.loop-j.j * c.args.n + (c.args.n - 1)) = last_in _ _ _ _ _ c.requires c.loop-j-test.true in
-    omega (arith, last.in_arrivals)
+    omega (arith, (last (goal.at.bounds-arrivals-first c).In-loop-j).in_arrivals)
 
 pub offset_bounds-departures-first : goal.offset_bounds-departures-first
 offset_bounds-departures-first c =
-    let last : Stands c.args.arrivals.now c.args.departures.now (c.loop-j.j * c.args.n + (c.args.n - 1)) = last_in _ _ _ _ _ c.requires c.loop-j-test.true in
-    omega (arith, last.small)
+    omega (arith, (last (goal.at.offset_bounds-departures-first c).In-loop-j).small)
 
 pub bounds-departures-first : goal.bounds-departures-first
 bounds-departures-first c =
-    let last : Stands c.args.arrivals.now c.args.departures.now (c.loop-j.j * c.args.n + (c.args.n - 1)) = last_in _ _ _ _ _ c.requires c.loop-j-test.true in
-    omega (arith, last.in_departures)
+    omega (arith, (last (goal.at.bounds-departures-first c).In-loop-j).in_departures)
 
 pub offset_bounds-arrivals-last : goal.offset_bounds-arrivals-last
 offset_bounds-arrivals-last c =
-    let last : Stands c.args.arrivals.now c.args.departures.now (c.loop-j.j * c.args.n + (c.args.n - 1)) = last_in _ _ _ _ _ c.requires c.loop-j-test.true in
-    omega (arith, last.small)
+    omega (arith, (last (goal.at.offset_bounds-arrivals-last c).In-loop-j).small)
 
 pub bounds-arrivals-last : goal.bounds-arrivals-last
-bounds-arrivals-last c =
-    let last : Stands c.args.arrivals.now c.args.departures.now (c.loop-j.j * c.args.n + (c.args.n - 1)) = last_in _ _ _ _ _ c.requires c.loop-j-test.true in
-    last.in_arrivals
+bounds-arrivals-last c = (last (goal.at.bounds-arrivals-last c).In-loop-j).in_arrivals
 
 pub offset_bounds-departures-last : goal.offset_bounds-departures-last
 offset_bounds-departures-last c =
-    let last : Stands c.args.arrivals.now c.args.departures.now (c.loop-j.j * c.args.n + (c.args.n - 1)) = last_in _ _ _ _ _ c.requires c.loop-j-test.true in
-    omega (arith, last.small)
+    omega (arith, (last (goal.at.offset_bounds-departures-last c).In-loop-j).small)
 
 pub bounds-departures-last : goal.bounds-departures-last
-bounds-departures-last c =
-    let last : Stands c.args.arrivals.now c.args.departures.now (c.loop-j.j * c.args.n + (c.args.n - 1)) = last_in _ _ _ _ _ c.requires c.loop-j-test.true in
-    last.in_departures
+bounds-departures-last c = (last (goal.at.bounds-departures-last c).In-loop-j).in_departures
 
 pub offset_bounds-departures-last-in-loop-j : goal.offset_bounds-departures-last-in-loop-j
 offset_bounds-departures-last-in-loop-j c =
-    let last : Stands c.args.arrivals.now c.args.departures.now (c.loop-j.j * c.args.n + (c.args.n - 1)) = last_in _ _ _ _ _ c.requires c.loop-j-test.true in
-    omega (arith, last.small)
+    omega (arith, (last (goal.at.offset_bounds-departures-last-in-loop-j c).In-loop-j).small)
 
 pub bounds-departures-last-in-loop-j : goal.bounds-departures-last-in-loop-j
 bounds-departures-last-in-loop-j c =
-    let last : Stands c.args.arrivals.now c.args.departures.now (c.loop-j.j * c.args.n + (c.args.n - 1)) = last_in _ _ _ _ _ c.requires c.loop-j-test.true in
-    last.in_departures
+    (last (goal.at.bounds-departures-last-in-loop-j c).In-loop-j).in_departures
 
 pub overflow_step-j : goal.overflow_step-j
 overflow_step-j c = omega (arith, c.loop-j-test.true, c.requires.m≤)

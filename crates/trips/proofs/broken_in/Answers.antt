@@ -4,8 +4,15 @@ use borrow.Author.Count.{falls}
 use Rattle.laws.proofs.Found.{nothing_start}
 use Rattle.route_times.specs.Route.{times_of, ahead}
 use Rattle.trips.specs.Needed.{AtEvent}
-use Rattle.trips.proofs.EventTests.{ahead≤, at_place, place_of_lem, position_passed, event_found, trip_passed, event_none, none_wrong}
+use Rattle.trips.proofs.EventTests.{ahead≤, at_place_lem, place_of_lem, position_passed, event_found, trip_passed, event_none, none_wrong}
 use Rattle.trips.proofs.broken_in.Goals as goal
+use Rattle.trips.proofs.broken_in.Goals.{In-loop-i}
+
+-- the event of this turn is one of the route's
+at :
+    (c : In-loop-i)
+    → let a = c.args in AtEvent (ahead a.overtaking) a.n a.m a.arrivals.now a.departures.now c.loop-j.j c.loop-i.i
+at c = at_place_lem c.args.overtaking _ _ _ _ _ _ c.requires c.loop-j-test.true c.loop-i-test.true
 
 pub any_wrong-requires : goal.any_wrong-requires
 any_wrong-requires c = c.requires
@@ -26,24 +33,19 @@ pub loop-i-init : goal.loop-i-init
 loop-i-init c = (omega arith, nothing_start _)
 
 pub event_broken-requires : goal.event_broken-requires
-event_broken-requires c =
-    let at : let a = c.args in AtEvent (ahead a.overtaking) a.n a.m a.arrivals.now a.departures.now c.loop-j.j c.loop-i.i = at_place c.args.overtaking _ _ _ _ _ _ c.requires c.loop-j-test.true c.loop-i-test.true in
-    at
+event_broken-requires c = (at (goal.at.event_broken-requires c).In-loop-i)
 
 pub overflow_add-result : goal.overflow_add-result
 overflow_add-result c =
-    let at : let a = c.args in AtEvent (ahead a.overtaking) a.n a.m a.arrivals.now a.departures.now c.loop-j.j c.loop-i.i = at_place c.args.overtaking _ _ _ _ _ _ c.requires c.loop-j-test.true c.loop-i-test.true in
-    omega (arith, at.trip, c.requires.m≤)
+    omega (arith, (at (goal.at.overflow_add-result c).In-loop-i).trip, c.requires.m≤)
 
 pub overflow_mul-result : goal.overflow_mul-result
 overflow_mul-result c =
-    let at : let a = c.args in AtEvent (ahead a.overtaking) a.n a.m a.arrivals.now a.departures.now c.loop-j.j c.loop-i.i = at_place c.args.overtaking _ _ _ _ _ _ c.requires c.loop-j-test.true c.loop-i-test.true in
-    omega (arith, (place_of_lem c.args.overtaking _ _ _ _ _ _ at).small)
+    omega (arith, (place_of_lem c.args.overtaking _ _ _ _ _ _ (at (goal.at.overflow_mul-result c).In-loop-i)).small)
 
 pub overflow_add-result-then-event_broken : goal.overflow_add-result-then-event_broken
 overflow_add-result-then-event_broken c =
-    let at : let a = c.args in AtEvent (ahead a.overtaking) a.n a.m a.arrivals.now a.departures.now c.loop-j.j c.loop-i.i = at_place c.args.overtaking _ _ _ _ _ _ c.requires c.loop-j-test.true c.loop-i-test.true in
-    omega (arith, (place_of_lem c.args.overtaking _ _ _ _ _ _ at).small)
+    omega (arith, (place_of_lem c.args.overtaking _ _ _ _ _ _ (at (goal.at.overflow_add-result-then-event_broken c).In-loop-i)).small)
 
 pub returns-then-event_broken : goal.returns-then-event_broken
 returns-then-event_broken c =

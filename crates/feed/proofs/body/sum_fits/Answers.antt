@@ -1,7 +1,6 @@
 -- `feed::body::sum_fits` meets its contract: the sum of all but the last two bytes.
 use mathlib.Core.Path.{sym}
-use mathlib.Core.List.{List}
-use Prim.Native.Nat.{ℕ, ◌-◌}
+use Prim.Native.Nat.{◌-◌}
 use native.Mathlib.Omega.{arith}
 use lib.ListN.{length}
 use lib.Seq.{length-take-le}
@@ -13,13 +12,11 @@ slice_bounds-fletcher-length c = sym (length-take-le _ c.args.f.now (omega arith
 
 pub returns-then-byte_in-first : goal.returns-then-byte_in-first
 returns-then-byte_in-first c =
-    let feed : List ℕ = c.args.f.now in
-    let f = feed in
+    let f = c.args.f.now in
     sum_first f (from_start f (length f - 2) c.byte_in.ensures.is) c.fletcher-s.ensures.is c.if-byte_in-first.true
     (from_start f (length f - 1) c.byte_in-then-byte_in-first.ensures.is)
 
 pub returns : goal.returns
 returns c =
-    let feed : List ℕ = c.args.f.now in
-    let f = feed in
+    let f = c.args.f.now in
     sum_not f (from_start f (length f - 2) c.byte_in.ensures.is) c.fletcher-s.ensures.is c.if-byte_in-first.false

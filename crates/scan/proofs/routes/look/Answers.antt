@@ -1,5 +1,4 @@
-use Prim.Native.Nat.{ℕ, ◌+◌, ◌<◌}
-use mathlib.Core.List.{List}
+use Prim.Native.Nat.{◌+◌, ◌<◌}
 use native.Mathlib.Omega.{arith}
 use lib.ListN.{length}
 use Rattle.laws.specs.Below.{mark}
@@ -7,6 +6,15 @@ use Rattle.paper.specs.Timetable.{Route}
 use Rattle.scan.specs.Look.{route_from}
 use Rattle.scan.proofs.Looking.{scanned_start, scanned_step, scanned_end, boardable, work_small, reach_long}
 use Rattle.scan.proofs.routes.look.Goals as goal
+use Rattle.scan.proofs.routes.look.Goals.{In-loop-i, Start}
+
+-- the route
+abbrev R : Start → Route
+R c = route_from c.args.stops.now c.args.arrivals.now c.args.departures.now c.args.m
+
+-- in a turn there is a next position
+next_in : (c : In-loop-i) → c.loop-i.i + 1 < length c.args.stops.now
+next_in c = omega (arith, c.loop-i-test.true)
 
 pub overflow_sub-last : goal.overflow_sub-last
 overflow_sub-last c = omega arith
@@ -14,10 +22,7 @@ overflow_sub-last c = omega arith
 pub loop-i-init : goal.loop-i-init
 unfolding mark
 loop-i-init c =
-    let R : Route = route_from c.args.stops.now c.args.arrivals.now c.args.departures.now c.args.m in
-    let row : List ℕ = c.args.row.now in
-    let reach₀ : List ℕ = c.args.reach.now in
-    scanned_start R row reach₀ c.requires.some (λ k h. omega (arith, c.type_inv.reach k))
+    scanned_start (R (goal.at.loop-i-init c).Start) c.args.row.now c.args.reach.now c.requires.some (λ k h. omega (arith, c.type_inv.reach k))
 
 pub offset_bounds-stops-i : goal.offset_bounds-stops-i
 offset_bounds-stops-i c = omega (arith, c.loop-i.invariant.below, c.well_formed)
@@ -37,73 +42,46 @@ bounds-row-here c = c.requires.in_row c.loop-i.i c.loop-i.invariant.below
 -- both tables rise at a position: which of them is compared, the next row says
 pub board-caught-requires : goal.board-caught-requires
 board-caught-requires c =
-    let R : Route = route_from c.args.stops.now c.args.arrivals.now c.args.departures.now c.args.m in
-    let row : List ℕ = c.args.row.now in
-    let reach₀ : List ℕ = c.args.reach.now in
-    boardable R row reach₀ c.requires c.loop-i.invariant (omega (arith, c.requires.arrivals_size, c.requires.departures_size))
+    boardable (R (goal.at.board-caught-requires c).Start) c.args.row.now c.args.reach.now c.requires c.loop-i.invariant (omega (arith, c.requires.arrivals_size, c.requires.departures_size))
     (λ j h. omega (arith, c.requires.arrivals_rise j c.loop-i.i h c.loop-i.invariant.below, c.requires.departures_rise j c.loop-i.i h c.loop-i.invariant.below))
 
 pub overflow_add-work : goal.overflow_add-work
 overflow_add-work c =
-    let R : Route = route_from c.args.stops.now c.args.arrivals.now c.args.departures.now c.args.m in
-    let row : List ℕ = c.args.row.now in
-    let reach₀ : List ℕ = c.args.reach.now in
-    omega (arith, work_small R row reach₀ c.requires c.loop-i.invariant c.board-caught.ensures, c.loop-i.invariant.below, c.requires.few_stops, c.requires.few_trips)
+    omega (arith, work_small (R (goal.at.overflow_add-work c).Start) c.args.row.now c.args.reach.now c.requires c.loop-i.invariant c.board-caught.ensures, c.loop-i.invariant.below, c.requires.few_stops, c.requires.few_trips)
 
 pub overflow_add-i : goal.overflow_add-i
 overflow_add-i c =
-    let next-in : c.loop-i.i + 1 < length c.args.stops.now = omega (arith, c.loop-i-test.true) in
-    omega (arith, next-in, c.well_formed)
+    omega (arith, (next_in (goal.at.overflow_add-i c).In-loop-i), c.well_formed)
 
 pub offset_bounds-stops-i-in-loop-i : goal.offset_bounds-stops-i-in-loop-i
 offset_bounds-stops-i-in-loop-i c =
-    let next-in : c.loop-i.i + 1 < length c.args.stops.now = omega (arith, c.loop-i-test.true) in
-    omega (arith, next-in, c.well_formed)
+    omega (arith, (next_in (goal.at.offset_bounds-stops-i-in-loop-i c).In-loop-i), c.well_formed)
 
 pub bounds-stops-i-in-loop-i : goal.bounds-stops-i-in-loop-i
-bounds-stops-i-in-loop-i c =
-    let next-in : c.loop-i.i + 1 < length c.args.stops.now = omega (arith, c.loop-i-test.true) in
-    next-in
+bounds-stops-i-in-loop-i c = (next_in (goal.at.bounds-stops-i-in-loop-i c).In-loop-i)
 
 pub overflow_cast-next : goal.overflow_cast-next
 overflow_cast-next c = omega (arith, c.type_inv.stops (c.loop-i.i + 1))
 
 pub arrival-requires : goal.arrival-requires
 arrival-requires c =
-    let next-in : c.loop-i.i + 1 < length c.args.stops.now = omega (arith, c.loop-i-test.true) in
-    record { inside = next-in; size = c.requires.arrivals_size }
+    record { inside = (next_in (goal.at.arrival-requires c).In-loop-i); size = c.requires.arrivals_size }
 
 pub lower-requires : goal.lower-requires
 lower-requires c =
-    let next-in : c.loop-i.i + 1 < length c.args.stops.now = omega (arith, c.loop-i-test.true) in
-    let R : Route = route_from c.args.stops.now c.args.arrivals.now c.args.departures.now c.args.m in
-    let row : List ℕ = c.args.row.now in
-    let reach₀ : List ℕ = c.args.reach.now in
-    omega (arith, c.requires.in_reach (c.loop-i.i + 1) (next-in), reach_long R row reach₀ c.requires c.loop-i.invariant)
+    omega (arith, c.requires.in_reach (c.loop-i.i + 1) ((next_in (goal.at.lower-requires c).In-loop-i)), reach_long (R (goal.at.lower-requires c).Start) c.args.row.now c.args.reach.now c.requires c.loop-i.invariant)
 
 pub loop-i-smaller : goal.loop-i-smaller
-loop-i-smaller c =
-    let next-in : c.loop-i.i + 1 < length c.args.stops.now = omega (arith, c.loop-i-test.true) in
-    omega (arith, next-in)
+loop-i-smaller c = omega (arith, (next_in (goal.at.loop-i-smaller c).In-loop-i))
 
 pub loop-i-preserved : goal.loop-i-preserved
 loop-i-preserved c =
-    let R : Route = route_from c.args.stops.now c.args.arrivals.now c.args.departures.now c.args.m in
-    let row : List ℕ = c.args.row.now in
-    let reach₀ : List ℕ = c.args.reach.now in
-    let next-in : c.loop-i.i + 1 < length c.args.stops.now = omega (arith, c.loop-i-test.true) in
-    scanned_step R row reach₀ c.requires c.loop-i.invariant c.board-caught.ensures (next-in) c.arrival.ensures c.lower.ensures
+    scanned_step (R (goal.at.loop-i-preserved c).Start) c.args.row.now c.args.reach.now c.requires c.loop-i.invariant c.board-caught.ensures ((next_in (goal.at.loop-i-preserved c).In-loop-i)) c.arrival.ensures c.lower.ensures
 
 pub shape_of-reach : goal.shape_of-reach
 shape_of-reach c =
-    let R : Route = route_from c.args.stops.now c.args.arrivals.now c.args.departures.now c.args.m in
-    let row : List ℕ = c.args.row.now in
-    let reach₀ : List ℕ = c.args.reach.now in
-    reach_long R row reach₀ c.requires c.loop-i.invariant
+    reach_long (R (goal.at.shape_of-reach c).Start) c.args.row.now c.args.reach.now c.requires c.loop-i.invariant
 
 pub returns : goal.returns
 returns c =
-    let R : Route = route_from c.args.stops.now c.args.arrivals.now c.args.departures.now c.args.m in
-    let row : List ℕ = c.args.row.now in
-    let reach₀ : List ℕ = c.args.reach.now in
-    scanned_end R row reach₀ c.requires c.loop-i.invariant c.loop-i-test.false
+    scanned_end (R (goal.at.returns c).Start) c.args.row.now c.args.reach.now c.requires c.loop-i.invariant c.loop-i-test.false

@@ -7,32 +7,34 @@ use Rattle.paper.proofs.Places.{heads_right}
 use Rattle.timetable.specs.Places.{of_counts}
 use Rattle.timetable.proofs.Faults.{heads_refused, route_refused, counts_passed, routes_read}
 use Rattle.timetable.proofs.counts.count_fault.Goals as goal
+use Rattle.timetable.proofs.counts.count_fault.Goals.{After-heads_broken, Else-heads_broken}
+
+abbrev T : After-heads_broken → Tables
+T c = of_counts c.args.heads c.args.routes.now
+
+-- the head counts are right
+heads_unbroken : (c : Else-heads_broken) → heads_broken (of_counts c.args.heads c.args.routes.now) ≡ false
+unfolding heads_broken
+heads_unbroken c = sym c.heads_broken.ensures ∙ c.if-heads_broken.false
 
 pub returns-then-heads_broken : goal.returns-then-heads_broken
 unfolding heads_broken
 returns-then-heads_broken c =
-    let T : Tables = of_counts c.args.heads c.args.routes.now in
-    heads_refused T (sym c.heads_broken.ensures ∙ c.if-heads_broken.true)
+    heads_refused (T (goal.at.returns-then-heads_broken c).After-heads_broken) (sym c.heads_broken.ensures ∙ c.if-heads_broken.true)
 
 pub lowest_route-requires : goal.lowest_route-requires
 unfolding heads_broken
 lowest_route-requires c =
-    let T : Tables = of_counts c.args.heads c.args.routes.now in
-    let heads-unbroken : heads_broken T ≡ false = sym c.heads_broken.ensures ∙ c.if-heads_broken.false in
-    record { routes≤ = (heads_right T heads-unbroken).routes≤; long = c.requires.routes }
+    record { routes≤ = (heads_right (T (goal.at.lowest_route-requires c).After-heads_broken) (heads_unbroken (goal.at.lowest_route-requires c).Else-heads_broken)).routes≤; long = c.requires.routes }
 
 pub returns-in-At : goal.returns-in-At
 unfolding heads_broken
 returns-in-At c =
-    let T : Tables = of_counts c.args.heads c.args.routes.now in
-    let heads-unbroken : heads_broken T ≡ false = sym c.heads_broken.ensures ∙ c.if-heads_broken.false in
-    let t = T in
-    route_refused t heads-unbroken (routes_read t (sym c.in-At.is ∙ c.lowest_route.ensures))
+    let t = T (goal.at.returns-in-At c).After-heads_broken in
+    route_refused t (heads_unbroken (goal.at.returns-in-At c).Else-heads_broken) (routes_read t (sym c.in-At.is ∙ c.lowest_route.ensures))
 
 pub returns : goal.returns
 unfolding heads_broken
 returns c =
-    let T : Tables = of_counts c.args.heads c.args.routes.now in
-    let heads-unbroken : heads_broken T ≡ false = sym c.heads_broken.ensures ∙ c.if-heads_broken.false in
-    let t = T in
-    counts_passed t heads-unbroken (routes_read t (sym c.in_default.is ∙ c.lowest_route.ensures))
+    let t = T (goal.at.returns c).After-heads_broken in
+    counts_passed t (heads_unbroken (goal.at.returns c).Else-heads_broken) (routes_read t (sym c.in_default.is ∙ c.lowest_route.ensures))

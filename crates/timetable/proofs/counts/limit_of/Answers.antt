@@ -5,29 +5,31 @@ use Rattle.paper.specs.Timetable.{positions_to, trips_to}
 use Rattle.paper.specs.Work.{limit_of}
 use Rattle.timetable.proofs.CountTests.{TotalsFit, totals_fit}
 use Rattle.timetable.proofs.counts.limit_of.Goals as goal
+use Rattle.timetable.proofs.counts.limit_of.Goals.{After-totals_of-all}
+
+-- the totals are small
+fit :
+    (c : After-totals_of-all)
+    → TotalsFit c.args.heads.routes c.args.routes.now c.totals_of-all.result.positions c.totals_of-all.result.trips
+fit c = totals_fit _ _ c.requires.laid c.totals_of-all.ensures
 
 pub totals_of-all-requires : goal.totals_of-all-requires
 totals_of-all-requires c = c.requires.laid
 
 pub overflow_sub-result : goal.overflow_sub-result
-overflow_sub-result c =
-    let fit : TotalsFit c.args.heads.routes c.args.routes.now c.totals_of-all.result.positions c.totals_of-all.result.trips = totals_fit _ _ c.requires.laid c.totals_of-all.ensures in
-    fit.positions≥
+overflow_sub-result c = (fit (goal.at.overflow_sub-result c).After-totals_of-all).positions≥
 
 pub overflow_add-result : goal.overflow_add-result
 overflow_add-result c =
-    let fit : TotalsFit c.args.heads.routes c.args.routes.now c.totals_of-all.result.positions c.totals_of-all.result.trips = totals_fit _ _ c.requires.laid c.totals_of-all.ensures in
-    let t = fit in omega (arith, c.requires.walks≤)
+    let t = fit (goal.at.overflow_add-result c).After-totals_of-all in omega (arith, c.requires.walks≤)
 
 pub overflow_add-result-2 : goal.overflow_add-result-2
 overflow_add-result-2 c =
-    let fit : TotalsFit c.args.heads.routes c.args.routes.now c.totals_of-all.result.positions c.totals_of-all.result.trips = totals_fit _ _ c.requires.laid c.totals_of-all.ensures in
-    let t = fit in omega (arith, c.requires.walks≤)
+    let t = fit (goal.at.overflow_add-result-2 c).After-totals_of-all in omega (arith, c.requires.walks≤)
 
 pub overflow_mul-result : goal.overflow_mul-result
 overflow_mul-result c =
-    let fit : TotalsFit c.args.heads.routes c.args.routes.now c.totals_of-all.result.positions c.totals_of-all.result.trips = totals_fit _ _ c.requires.laid c.totals_of-all.ensures in
-    let t = fit in omega (arith, c.requires.walks≤)
+    let t = fit (goal.at.overflow_mul-result c).After-totals_of-all in omega (arith, c.requires.walks≤)
 
 pub returns : goal.returns
 unfolding limit_of positions_to trips_to

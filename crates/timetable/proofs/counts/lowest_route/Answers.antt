@@ -4,6 +4,14 @@ use borrow.Author.Count.{falls}
 use Rattle.paper.proofs.Places.{Counted}
 use Rattle.timetable.proofs.CountTests.{summed_start, summed_next, summed_found, summed_end, route_counts}
 use Rattle.timetable.proofs.counts.lowest_route.Goals as goal
+use Rattle.timetable.proofs.counts.lowest_route.Goals.{Else-not-counted-route}
+
+-- a route that is right
+counts :
+    (c : Else-not-counted-route)
+    → let x = c.extent_of-route.result in let l = c.loop-r in Counted x.n x.m l.trips l.events
+counts c =
+    route_counts _ _ _ _ _ _ c.loop-r.invariant c.extent_of-route.ensures c.counted.ensures (ap not c.if-not-counted-route.false)
 
 pub loop-r-init : goal.loop-r-init
 loop-r-init c = summed_start _ _
@@ -26,23 +34,19 @@ returns-then-not-counted-route c =
 
 pub overflow_add-positions : goal.overflow_add-positions
 overflow_add-positions c =
-    let counts : let x = c.extent_of-route.result in let l = c.loop-r in Counted x.n x.m l.trips l.events = route_counts _ _ _ _ _ _ c.loop-r.invariant c.extent_of-route.ensures c.counted.ensures (ap not c.if-not-counted-route.false) in
-    omega (arith, counts.n≤, c.loop-r.invariant.positions≤, c.loop-r-test.true, c.requires.routes≤)
+    omega (arith, (counts (goal.at.overflow_add-positions c).Else-not-counted-route).n≤, c.loop-r.invariant.positions≤, c.loop-r-test.true, c.requires.routes≤)
 
 pub overflow_add-trips : goal.overflow_add-trips
 overflow_add-trips c =
-    let counts : let x = c.extent_of-route.result in let l = c.loop-r in Counted x.n x.m l.trips l.events = route_counts _ _ _ _ _ _ c.loop-r.invariant c.extent_of-route.ensures c.counted.ensures (ap not c.if-not-counted-route.false) in
-    omega (arith, counts.trips≤)
+    omega (arith, (counts (goal.at.overflow_add-trips c).Else-not-counted-route).trips≤)
 
 pub overflow_mul-events : goal.overflow_mul-events
 overflow_mul-events c =
-    let counts : let x = c.extent_of-route.result in let l = c.loop-r in Counted x.n x.m l.trips l.events = route_counts _ _ _ _ _ _ c.loop-r.invariant c.extent_of-route.ensures c.counted.ensures (ap not c.if-not-counted-route.false) in
-    omega (arith, counts.events≤)
+    omega (arith, (counts (goal.at.overflow_mul-events c).Else-not-counted-route).events≤)
 
 pub overflow_add-events : goal.overflow_add-events
 overflow_add-events c =
-    let counts : let x = c.extent_of-route.result in let l = c.loop-r in Counted x.n x.m l.trips l.events = route_counts _ _ _ _ _ _ c.loop-r.invariant c.extent_of-route.ensures c.counted.ensures (ap not c.if-not-counted-route.false) in
-    omega (arith, counts.events≤)
+    omega (arith, (counts (goal.at.overflow_add-events c).Else-not-counted-route).events≤)
 
 pub overflow_step-r : goal.overflow_step-r
 overflow_step-r c = omega (arith, c.loop-r-test.true, c.requires.routes≤)
