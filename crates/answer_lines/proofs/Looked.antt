@@ -1,39 +1,42 @@
--- The look for an entry of too many rides, and what follows when there is none.
-use mathlib.Core.Path.{◌≡◌, refl}
-use mathlib.Core.Bool.{Bool, true, false}
+-- The first entries of an answer: what their lines are, and what follows where none of them has too many rides.
+use mathlib.Core.Path.{◌≡◌, refl, sym, ◌∙◌}
+use mathlib.Core.Bool.{Bool, false, ◌||◌}
 use mathlib.Core.List.{List}
-use Prim.Native.Nat.{ℕ, ◌+◌, ◌≤◌, ◌<◌}
+use Prim.Native.Nat.{ℕ, zero, suc, ◌+◌, ◌≤◌, ◌<◌}
+use native.Mathlib.Numerals.{add-one}
 use native.Mathlib.Omega.{arith}
-use lib.Dec.{ltb}
-use lib.ListN.{get_or}
-use borrow.Author.Tests.{lt-ltb, le-ltb, ltb-false}
-use Rattle.laws.proofs.Below.{Passed, passed_none, passed_more, any_found, any_end, any_below_none}
+use lib.ListN.{length, get_or, take}
+use lib.Seq.{length-take-le}
+use borrow.Author.Tests.{ltb-false}
+use Rattle.std.specs.List.{list_any}
+use Rattle.std.proofs.lemmas.List.{get_or-take}
+use Rattle.std.proofs.lemmas.List.Folds.{list_any_more}
+use Rattle.laws.specs.Below.{any_below}
+use Rattle.laws.specs.Lists.{pieces}
+use Rattle.laws.proofs.Below.{any_below_none}
+use Rattle.laws.proofs.Lists.{pieces_same}
 use Rattle.paper.specs.Reply.{zero_entry}
 use Rattle.paper.specs.declared.Entry.{Entry}
-use Rattle.answer_lines.specs.Printing.{overlong}
+use Rattle.answer_lines.specs.Printing.{long, overlong}
 
-abbrev long : List Entry → ℕ → Bool
-long entries i = ltb 8 (get_or entries i zero_entry).rides
+pub first_entries :
+    (f : Entry → List ℕ) (count : ℕ) (es : List Entry) → count ≤ length es
+    → pieces (length (take count es)) (λ i. f (get_or (take count es) i zero_entry)) ≡ pieces count (λ i. f (get_or es i zero_entry))
+first_entries f count es h =
+    let n : length (take count es) ≡ count = length-take-le count es h in
+    rw n (pieces_same count _ _ (λ i l. rw (get_or-take count es i zero_entry l) refl))
 
-pub record Looked (count : ℕ) (entries : List Entry) (i : ℕ) : Type 0 where
-  pub within : i ≤ count
-  pub passed : Passed (long entries) i
+pub long_first : (count : ℕ) (es : List Entry) → count ≤ length es → list_any long (take count es) ≡ overlong count es
+unfolding overlong any_below
+long_first zero es h = refl
+long_first (suc k) es h =
+    let e : list_any long (take (k + 1) es) ≡ (list_any long (take k es) || long (get_or es k zero_entry)) =
+    list_any_more long es k zero_entry (omega arith) in
+    rw (← add-one k, e, long_first k es (omega arith)) refl
 
-module _ {count : ℕ} {entries : List Entry} where
-  pub looked_start : Looked count entries 0
-  looked_start = record { within = omega arith; passed = passed_none (long entries) }
+pub long_told : {count : ℕ} (es : List Entry) {r b : Bool} → count ≤ length es → r ≡ list_any long (take count es) → r ≡ b → overlong count es ≡ b
+long_told {count} es h e t = sym (long_first count es h) ∙ sym e ∙ t
 
-  pub looked_step : {i : ℕ} → Looked count entries i → i < count → (get_or entries i zero_entry).rides ≤ 8 → Looked count entries (i + 1)
-  looked_step {i} h l e = record { within = omega arith; passed = passed_more (long entries) i h.passed (le-ltb 8 (get_or entries i zero_entry).rides e) }
-
-  pub looked_found : {i : ℕ} → Looked count entries i → i < count → 8 < (get_or entries i zero_entry).rides → true ≡ overlong count entries
-  unfolding overlong
-  looked_found {i} h l e = any_found count (long entries) i l refl (lt-ltb 8 (get_or entries i zero_entry).rides e)
-
-  pub looked_end : {i : ℕ} → Looked count entries i → count ≤ i → false ≡ overlong count entries
-  unfolding overlong
-  looked_end {i} h l = any_end count (long entries) i (omega (arith, h.within)) h.passed
-
-pub none_long : (count : ℕ) (entries : List Entry) → overlong count entries ≡ false → (i : ℕ) → i < count → (get_or entries i zero_entry).rides ≤ 8
+pub none_long : (count : ℕ) (es : List Entry) → overlong count es ≡ false → (i : ℕ) → i < count → (get_or es i zero_entry).rides ≤ 8
 unfolding overlong
-none_long count entries e i l = ltb-false 8 (get_or entries i zero_entry).rides (any_below_none count (long entries) e i l)
+none_long count es e i l = ltb-false 8 (get_or es i zero_entry).rides (any_below_none count _ e i l)

@@ -2,127 +2,107 @@
 #![tactic(auto)]
 
 ghost use Rattle.std.specs.Prelude.{◌≡◌, ◌+◌, ◌≤◌, length, get_or};
+ghost use Rattle.std.specs.List.{list_any};
 ghost use Rattle.laws.specs.Lists.{pieces};
 ghost use Rattle.paper.specs.Reply.{zero_entry};
 ghost use Rattle.paper.specs.Lines.{trips_line, entry_lines, journeys_line, refused_line, answer_lines};
-ghost use Rattle.lettering.specs.Put.{Put};
+ghost use Rattle.lettering.specs.Put.{HasRoom, Wrote};
 ghost use Rattle.leg_lines.specs.Leg.{RidesRoom};
 ghost use Rattle.answer_lines.specs.Room.{EntriesRoom, AnswerRoom};
-ghost use Rattle.answer_lines.specs.Printing.{overlong, Rendered, Refuses};
+ghost use Rattle.answer_lines.specs.Printing.{long, Rendered, Refuses};
 
 use leg_lines::put_legs;
-use lettering::put_line;
-use paper::{Answer, Entry, Verdict};
+use lettering::Pen;
+use paper::{Answer, Entry, Refusal};
 
-// Printing is done, with the number of bytes; or something is too short, and nothing is printed.
-#[derive(Clone, Copy)]
-pub enum Printed {
-    Done(usize),
-    TooShort,
+fn put_refused(pen: &mut Pen, refusal: Refusal)
+    requires { HasRoom 30 pen.old }
+    ensures { Wrote (refused_line refusal.number refusal.place) 30 pen.old pen.new }
+{
+    pen.put_line(b"refused ", refusal.number, b" ", refusal.place);
 }
 
-fn put_refused(out: &mut [u8], number: u32, place: u32) -> usize
-    requires { 30 ≤ length out.old }
-    ensures { Put (refused_line number place) 30 0 out.old out.new result }
+fn put_journeys(pen: &mut Pen, count: u32, work: u32)
+    requires { HasRoom 36 pen.old }
+    ensures { Wrote (journeys_line count work) 36 pen.old pen.new }
 {
-    put_line(out, 0, b"refused ", number, b" ", place)
+    pen.put_line(b"journeys ", count, b" work ", work);
 }
 
-fn put_journeys(out: &mut [u8], count: u32, work: u32) -> usize
-    requires { 36 ≤ length out.old }
-    ensures { Put (journeys_line count work) 36 0 out.old out.new result }
+fn put_trips(pen: &mut Pen, rides: u32, arrival: u32)
+    requires { HasRoom 35 pen.old }
+    ensures { Wrote (trips_line rides arrival) 35 pen.old pen.new }
 {
-    put_line(out, 0, b"journeys ", count, b" work ", work)
+    pen.put_line(b"trips ", rides, b" arrive ", arrival);
 }
 
-fn put_trips(out: &mut [u8], at: usize, rides: u32, arrival: u32) -> usize
-    requires { at + 35 ≤ length out.old }
-    ensures { Put (trips_line rides arrival) 35 at out.old out.new result }
+fn put_entry(pen: &mut Pen, legs: &[u32], entry: Entry)
+    requires { RidesRoom 475 entry.rides legs.now pen.old }
+    ensures { Wrote (entry_lines legs.now entry) 475 pen.old pen.new }
 {
-    put_line(out, at, b"trips ", rides, b" arrive ", arrival)
+    put_trips(pen, entry.rides, entry.arrival);
+    put_legs(pen, legs, entry.rides as usize);
 }
 
-fn put_entry(out: &mut [u8], at: usize, legs: &[u32], entry: Entry) -> usize
-    requires { RidesRoom 475 at entry.rides out.old legs.now }
-    ensures { Put (entry_lines legs.now entry) 475 at out.old out.new result }
+// The entries, each with its legs.
+fn put_entries(pen: &mut Pen, legs: &[u32], entries: &[Entry])
+    requires { EntriesRoom entries.now legs.now pen.old }
+    ensures { Wrote (pieces (length entries.now) (λ i. entry_lines legs.now (get_or entries.now i zero_entry))) 4275 pen.old pen.new }
 {
-    let next = put_trips(out, at, entry.rides, entry.arrival);
-    put_legs(out, next, legs, entry.rides as usize)
-}
-
-// The first `count` of the entries.
-fn put_entries(out: &mut [u8], at: usize, legs: &[u32], count: u32, entries: [Entry; 9]) -> usize
-    requires { EntriesRoom at count entries out.old legs.now }
-    ensures { Put (pieces count (λ i. entry_lines legs.now (get_or entries i zero_entry))) 4275 at out.old out.new result }
-{
-    let n = count as usize;
-    let mut next = at;
-    let mut i: usize = 0;
-    while i < n {
-        next = put_entry(out, next, legs, entries[i]);
-        i += 1;
+    for entry in entries {
+        put_entry(pen, legs, *entry);
     }
-    next
 }
 
-// Whether one of the first `count` entries has more rides than a row of the legs table has legs.
-fn is_overlong(count: u32, entries: [Entry; 9]) -> bool
-    requires { count ≤ 9 }
-    ensures { result ≡ overlong count entries }
+fn put_answer(pen: &mut Pen, legs: &[u32], answer: Answer)
+    requires { AnswerRoom answer legs.now pen.old }
+    ensures { Wrote (answer_lines answer legs.now) 4311 pen.old pen.new }
 {
-    let n = count as usize;
-    let mut i: usize = 0;
-    while i < n {
-        let entry = entries[i];
-        if 8 < entry.rides {
-            return true;
+    match answer.verdict {
+        Ok(work) => {
+            put_journeys(pen, answer.count, work);
+            put_entries(pen, legs, &answer.entries[..answer.count as usize]);
         }
-        i += 1;
+        Err(refusal) => put_refused(pen, refusal),
     }
-    false
 }
 
-fn put_answer(out: &mut [u8], legs: &[u32], answer: Answer) -> usize
-    requires { AnswerRoom answer out.old legs.now }
-    ensures { Put (answer_lines answer legs.now) 4311 0 out.old out.new result }
+// Whether an entry has more rides than a row of the legs table has legs.
+fn is_overlong(entries: &[Entry]) -> bool
+    ensures { result ≡ list_any long entries.now }
 {
-    let verdict = answer.verdict;
-    match verdict {
-        Verdict::Answered(work) => {
-            let entries = answer.entries;
-            let next = put_journeys(out, answer.count, work);
-            put_entries(out, next, legs, answer.count, entries)
-        }
-        Verdict::Refused(number, place) => put_refused(out, number, place),
-    }
+    entries.iter().any(|entry| 8 < entry.rides)
 }
 
-// The lines of an answer, in the front of `out`.
-pub fn render(answer: Answer, legs: &[u32], out: &mut [u8]) -> Printed
+// The lines of an answer, in the front of `out`, and their length; where something is too short, nothing is printed.
+pub fn render(answer: Answer, legs: &[u32], out: &mut [u8]) -> Option<usize>
     ensures { Rendered answer legs.now out.old out.new result }
 {
     if out.len() < 4311 {
-        return Printed::TooShort;
+        return None;
     }
     if legs.len() < 320 {
-        return Printed::TooShort;
+        return None;
     }
     if 9 < answer.count {
-        return Printed::TooShort;
+        return None;
     }
-    let entries = answer.entries;
-    if is_overlong(answer.count, entries) {
-        return Printed::TooShort;
+    if is_overlong(&answer.entries[..answer.count as usize]) {
+        return None;
     }
-    Printed::Done(put_answer(out, legs, answer))
+    let mut pen = Pen { out, at: 0 };
+    put_answer(&mut pen, legs, answer);
+    Some(pen.at)
 }
 
-// The line of a refusal, in the front of `out`.
-pub fn render_refusal(number: u32, place: u32, out: &mut [u8]) -> Printed
-    ensures { Refuses number place out.old out.new result }
+// The line of a refusal, in the same way.
+pub fn render_refusal(refusal: Refusal, out: &mut [u8]) -> Option<usize>
+    ensures { Refuses refusal out.old out.new result }
 {
     if out.len() < 30 {
-        return Printed::TooShort;
+        return None;
     }
-    Printed::Done(put_refused(out, number, place))
+    let mut pen = Pen { out, at: 0 };
+    put_refused(&mut pen, refusal);
+    Some(pen.at)
 }

@@ -1,14 +1,15 @@
 // The cabinet's face for C and Rust: checking, reading, writing and asking on numbers and slices alone, each answer packed into one number.
 #![tactic(auto)]
 
-ghost use Rattle.std.specs.Prelude.{◌≡◌, [], ◌∷◌, length};
-ghost use Rattle.paper.specs.Timetable.{lent};
+ghost use Rattle.std.specs.Prelude.{◌≡◌};
+ghost use Rattle.paper.specs.Timetable.{tables};
 ghost use Rattle.paper.specs.Reply.{check_of, read_into, reply_of};
 ghost use Rattle.packing.specs.Packed.{checked_number};
-ghost use Rattle.cabinet.specs.Calls.{heads_by, question_by, Reads, Writes, Asks};
+ghost use Rattle.feed.specs.State.{lengths};
+ghost use Rattle.cabinet.specs.Calls.{heads_by, question_by, five, Reads, Writes, Asks};
 
-use packing::{checked_number, put_entries, reading_number, verdict_number, writing_number};
-use paper::{Heads, Question};
+use packing::{checked_number, put_entries, reading_number};
+use paper::{Heads, Lent, Question, Room};
 
 // Checks tables 1 to 5. Done: the work limit.
 #[unsafe(no_mangle)]
@@ -22,14 +23,21 @@ pub extern "C" fn pospolarku_check(
     departures: &[u32],
     walks: &[u32],
 ) -> u64
-    ensures { result ≡ checked_number (check_of (lent (heads_by stops route_count walk_count) routes.entry positions.entry arrivals.entry departures.entry walks.entry)) }
+    ensures { result ≡ checked_number (check_of (tables (heads_by stops route_count walk_count) routes.now positions.now arrivals.now departures.now walks.now)) }
 {
-    let heads = Heads {
-        stops: stops,
-        routes: route_count,
-        walks: walk_count,
+    let tables = Lent {
+        heads: Heads {
+            stops,
+            routes: route_count,
+            walks: walk_count,
+        },
+        routes,
+        positions,
+        arrivals,
+        departures,
+        walks,
     };
-    checked_number(timetable::check(heads, routes, positions, arrivals, departures, walks))
+    checked_number(timetable::check(tables))
 }
 
 // Reads a feed into tables 1 to 5. Done: the head counts.
@@ -42,9 +50,16 @@ pub extern "C" fn pospolarku_read(
     departures: &mut [u32],
     walks: &mut [u32],
 ) -> u64
-    ensures { Reads (read_into (length routes.old ∷ length positions.old ∷ length arrivals.old ∷ length departures.old ∷ length walks.old ∷ []) feed.now) result routes.old routes.new positions.old positions.new arrivals.old arrivals.new departures.old departures.new walks.old walks.new }
+    ensures { let old = five routes.old positions.old arrivals.old departures.old walks.old in Reads (read_into (lengths old) feed.now) result old (five routes.new positions.new arrivals.new departures.new walks.new) }
 {
-    reading_number(feed::read(feed, routes, positions, arrivals, departures, walks))
+    let mut room = Room {
+        routes,
+        positions,
+        arrivals,
+        departures,
+        walks,
+    };
+    reading_number(feed::read(feed, &mut room))
 }
 
 // Writes the feed of tables 1 to 5. Done: its bytes.
@@ -60,14 +75,21 @@ pub extern "C" fn pospolarku_write(
     walks: &[u32],
     out: &mut [u8],
 ) -> u64
-    ensures { Writes (lent (heads_by stops route_count walk_count) routes.entry positions.entry arrivals.entry departures.entry walks.entry) result out.old out.new }
+    ensures { Writes (tables (heads_by stops route_count walk_count) routes.now positions.now arrivals.now departures.now walks.now) result out.old out.new }
 {
-    let heads = Heads {
-        stops: stops,
-        routes: route_count,
-        walks: walk_count,
+    let tables = Lent {
+        heads: Heads {
+            stops,
+            routes: route_count,
+            walks: walk_count,
+        },
+        routes,
+        positions,
+        arrivals,
+        departures,
+        walks,
     };
-    writing_number(feed::write(heads, routes, positions, arrivals, departures, walks, out))
+    checked_number(feed::write(tables, out))
 }
 
 // Answers a question over tables 1 to 5: labels, legs and entries. Answered: the work.
@@ -90,25 +112,28 @@ pub extern "C" fn pospolarku_ask(
     budget: u32,
     entries: &mut [u32],
 ) -> u64
-    ensures { Asks (reply_of (lent (heads_by stops route_count walk_count) routes.entry positions.entry arrivals.entry departures.entry walks.entry) labels.old legs.old (question_by start target time limit budget)) result labels.new legs.new entries.old entries.new }
+    ensures { Asks (reply_of (tables (heads_by stops route_count walk_count) routes.now positions.now arrivals.now departures.now walks.now) labels.old legs.old (question_by start target time limit budget)) result labels.new legs.new entries.old entries.new }
 {
-    let heads = Heads {
-        stops: stops,
-        routes: route_count,
-        walks: walk_count,
+    let tables = Lent {
+        heads: Heads {
+            stops,
+            routes: route_count,
+            walks: walk_count,
+        },
+        routes,
+        positions,
+        arrivals,
+        departures,
+        walks,
     };
     let question = Question {
-        start: start,
-        target: target,
-        time: time,
-        limit: limit,
-        budget: budget,
+        start,
+        target,
+        time,
+        limit,
+        budget,
     };
-    let answer = planner::ask(
-        heads, routes, positions, arrivals, departures, walks, labels, legs, question,
-    );
-    let listed = answer.entries;
-    put_entries(answer.count, listed, entries);
-    let verdict = answer.verdict;
-    verdict_number(verdict)
+    let answer = planner::ask(tables, labels, legs, question);
+    put_entries(answer.count, answer.entries, entries);
+    checked_number(answer.verdict)
 }

@@ -1,11 +1,12 @@
 // The cabinet's four functions for C: each calls that of `cabinet` and promises the same.
 #![tactic(auto)]
 
-ghost use Rattle.std.specs.Prelude.{◌≡◌, [], ◌∷◌, length};
-ghost use Rattle.paper.specs.Timetable.{lent};
+ghost use Rattle.std.specs.Prelude.{◌≡◌};
+ghost use Rattle.paper.specs.Timetable.{tables};
 ghost use Rattle.paper.specs.Reply.{check_of, read_into, reply_of};
 ghost use Rattle.packing.specs.Packed.{checked_number};
-ghost use Rattle.cabinet.specs.Calls.{heads_by, question_by, Reads, Writes, Asks};
+ghost use Rattle.feed.specs.State.{lengths};
+ghost use Rattle.cabinet.specs.Calls.{heads_by, question_by, five, Reads, Writes, Asks};
 
 // Checks tables 1 to 5. Done: the work limit.
 #[unsafe(no_mangle)]
@@ -19,7 +20,7 @@ pub extern "C" fn pospolarku_check(
     departures: &[u32],
     walks: &[u32],
 ) -> u64
-    ensures { result ≡ checked_number (check_of (lent (heads_by stops route_count walk_count) routes.entry positions.entry arrivals.entry departures.entry walks.entry)) }
+    ensures { result ≡ checked_number (check_of (tables (heads_by stops route_count walk_count) routes.now positions.now arrivals.now departures.now walks.now)) }
 {
     cabinet::pospolarku_check(
         stops,
@@ -43,7 +44,7 @@ pub extern "C" fn pospolarku_read(
     departures: &mut [u32],
     walks: &mut [u32],
 ) -> u64
-    ensures { Reads (read_into (length routes.old ∷ length positions.old ∷ length arrivals.old ∷ length departures.old ∷ length walks.old ∷ []) feed.now) result routes.old routes.new positions.old positions.new arrivals.old arrivals.new departures.old departures.new walks.old walks.new }
+    ensures { let old = five routes.old positions.old arrivals.old departures.old walks.old in Reads (read_into (lengths old) feed.now) result old (five routes.new positions.new arrivals.new departures.new walks.new) }
 {
     cabinet::pospolarku_read(feed, routes, positions, arrivals, departures, walks)
 }
@@ -61,7 +62,7 @@ pub extern "C" fn pospolarku_write(
     walks: &[u32],
     out: &mut [u8],
 ) -> u64
-    ensures { Writes (lent (heads_by stops route_count walk_count) routes.entry positions.entry arrivals.entry departures.entry walks.entry) result out.old out.new }
+    ensures { Writes (tables (heads_by stops route_count walk_count) routes.now positions.now arrivals.now departures.now walks.now) result out.old out.new }
 {
     cabinet::pospolarku_write(
         stops,
@@ -96,7 +97,7 @@ pub extern "C" fn pospolarku_ask(
     budget: u32,
     entries: &mut [u32],
 ) -> u64
-    ensures { Asks (reply_of (lent (heads_by stops route_count walk_count) routes.entry positions.entry arrivals.entry departures.entry walks.entry) labels.old legs.old (question_by start target time limit budget)) result labels.new legs.new entries.old entries.new }
+    ensures { Asks (reply_of (tables (heads_by stops route_count walk_count) routes.now positions.now arrivals.now departures.now walks.now) labels.old legs.old (question_by start target time limit budget)) result labels.new legs.new entries.old entries.new }
 {
     cabinet::pospolarku_ask(
         stops,

@@ -1,136 +1,84 @@
-// One question of lent tables: the answer in the printer's lines, the target's labels, and how much of labels and legs is as their last element.
-use crate::tables::{KEPT, print_labels, print_refused, print_rest};
-use answer_lines::Printed;
-use paper::{Answer, Heads, Question, Verdict};
-
-fn print_first(bytes: &[u8], length: usize) {
-    if length <= bytes.len() {
-        io::write_all(1, &bytes[0..length]);
-    }
-}
-
-fn print_lines(answer: Answer, legs: &[u32], out: &mut [u8]) {
-    if let Printed::Done(length) = answer_lines::render(answer, legs, out) {
-        print_first(out, length);
-    }
-}
+// One question of lent tables: the answer in the printer's lines, the target's labels, and how much of labels
+// and legs is as their last element.
+use crate::showing::{KEPT, Refused, Rest, Shown};
+use paper::{Answer, Heads, Lent, Question};
+use std::io;
 
 // A refusal by itself, since a legs table that is too short cannot be printed from.
-fn print_answer(answer: Answer, legs: &[u32]) {
-    let mut out: [u8; 4311] = [0; 4311];
-    let verdict = answer.verdict;
-    match verdict {
-        Verdict::Answered(_work) => print_lines(answer, legs, &mut out),
-        Verdict::Refused(number, place) => {
-            print_refused(number, place);
-            io::write_all(1, b"\n");
-        }
+fn print_answer(rt: &impl Print, answer: Answer, legs: &[u32]) -> io::Result<()> {
+    if let Err(refusal) = answer.verdict {
+        return println!(rt; "{}", Refused(refusal));
+    }
+    let mut out = [0; 4311];
+    match answer_lines::render(answer, legs, &mut out) {
+        Some(length) => rt.write_all(out.get(..length).unwrap_or(&[])),
+        None => Ok(()),
     }
 }
 
-// What is left in labels and legs.
-fn print_left(labels: &[u32], legs: &[u32], target: u32) {
-    print_rest(b"labels ", labels);
-    io::write_all(1, b":");
-    print_labels(labels, target);
-    print_rest(b"; legs ", legs);
-    io::write_all(1, b"\n");
+// What is left in labels and legs: of the labels what every row has for the target.
+fn print_left(rt: &impl Print, labels: &[u32], legs: &[u32], target: u32) -> io::Result<()> {
+    print!(rt; "labels {}:", Rest(labels))?;
+    for label in labels.iter().skip(target as usize).step_by(256).take(9) {
+        print!(rt; " {}", Shown(*label))?;
+    }
+    println!(rt; "; legs {}", Rest(legs))
 }
 
 // Asks with these labels and legs.
 fn asks_with(
-    heads: Heads,
-    routes: &[u32],
-    positions: &[u32],
-    arrivals: &[u32],
-    departures: &[u32],
-    walks: &[u32],
+    rt: &impl Print,
+    tables: Lent,
     labels: &mut [u32],
     legs: &mut [u32],
     q: Question,
-) {
-    let answer = planner::ask(
-        heads, routes, positions, arrivals, departures, walks, labels, legs, q,
-    );
-    print_answer(answer, legs);
-    print_left(labels, legs, q.target);
+) -> io::Result<()> {
+    let answer = planner::ask(tables, labels, legs, q);
+    print_answer(rt, answer, legs)?;
+    print_left(rt, labels, legs, q.target)
 }
 
 // Asks with labels and legs of their full size.
-pub fn asks(
-    heads: Heads,
-    routes: &[u32],
-    positions: &[u32],
-    arrivals: &[u32],
-    departures: &[u32],
-    walks: &[u32],
-    q: Question,
-) {
-    let mut labels: [u32; 2304] = [KEPT; 2304];
-    let mut legs: [u32; 320] = [KEPT; 320];
-    asks_with(
-        heads,
-        routes,
-        positions,
-        arrivals,
-        departures,
-        walks,
-        &mut labels,
-        &mut legs,
-        q,
-    );
+pub fn asks(rt: &impl Print, tables: Lent, q: Question) -> io::Result<()> {
+    asks_with(rt, tables, &mut [KEPT; 2304], &mut [KEPT; 320], q)
 }
 
-// Stops alone, asked with these labels and legs.
-fn lends(name: &[u8], stops: u32, labels: &mut [u32], legs: &mut [u32]) {
-    let t1: [u32; 256] = [0; 256];
-    let times: [u32; 2048] = [0; 2048];
-    let t5: [u32; 1536] = [0; 1536];
-    io::write_all(1, name);
-    asks_with(
-        Heads {
+// Stops alone, asked with the first so many of 2400 labels and 400 legs.
+fn lends(rt: &impl Print, name: &str, stops: u32, labels: usize, legs: usize) -> io::Result<()> {
+    let times = [0; 2048];
+    let tables = Lent {
+        heads: Heads {
             stops,
             routes: 0,
             walks: 0,
         },
-        &t1,
-        &times,
-        &times,
-        &times,
-        &t5,
-        labels,
-        legs,
-        Question {
-            start: 0,
-            target: 0,
-            time: 7,
-            limit: 8,
-            budget: 100,
-        },
-    );
-}
-
-// The same with so many labels and legs, of 2400 and 400.
-fn lends_first(name: &[u8], stops: u32, labels: usize, legs: usize) {
-    let mut all_labels: [u32; 2400] = [KEPT; 2400];
-    let mut all_legs: [u32; 400] = [KEPT; 400];
-    if labels <= 2400 {
-        if legs <= 400 {
-            lends(
-                name,
-                stops,
-                &mut all_labels[..labels],
-                &mut all_legs[..legs],
-            );
-        }
+        routes: &[0; 256],
+        positions: &times,
+        arrivals: &times,
+        departures: &times,
+        walks: &[0; 1536],
+    };
+    let q = Question {
+        start: 0,
+        target: 0,
+        time: 7,
+        limit: 8,
+        budget: 100,
+    };
+    let mut all_labels = [KEPT; 2400];
+    let mut all_legs = [KEPT; 400];
+    println!(rt; "{name}")?;
+    match (all_labels.get_mut(..labels), all_legs.get_mut(..legs)) {
+        (Some(labels), Some(legs)) => asks_with(rt, tables, labels, legs, q),
+        _ => Ok(()),
     }
 }
 
 // 6 comes first, and elements beyond the full size are never written.
-pub fn lent_tables() {
-    lends_first(b"- labels 2303\n", 1, 2303, 400);
-    lends_first(b"- legs 319\n", 1, 2304, 319);
-    lends_first(b"- both too short\n", 1, 2303, 319);
-    lends_first(b"- legs 319, and no stop\n", 0, 2304, 319);
-    lends_first(b"- labels 2400, legs 400\n", 1, 2400, 400);
+pub fn lent_tables(rt: &impl Print) -> io::Result<()> {
+    lends(rt, "- labels 2303", 1, 2303, 400)?;
+    lends(rt, "- legs 319", 1, 2304, 319)?;
+    lends(rt, "- both too short", 1, 2303, 319)?;
+    lends(rt, "- legs 319, and no stop", 0, 2304, 319)?;
+    lends(rt, "- labels 2400, legs 400", 1, 2400, 400)
 }

@@ -1,130 +1,84 @@
 // 01's feeds, read and written.
 use crate::asking::asks;
-use crate::tables::{KEPT, print_number, print_refused, print_rest};
-use paper::{Heads, Question, Reading, Writing};
+use crate::showing::{KEPT, Refused, Rest};
+use paper::{Lent, Question, Room};
+use std::io;
 
-// How many bytes are as before.
-fn count_kept(bytes: &[u8]) -> usize {
-    let mut count: usize = 0;
-    for i in 0..bytes.len() {
-        if bytes[i] == 170 {
-            count += 1;
-        }
+// What writing answers, and how many bytes of the buffer, which held 170, are as before.
+pub fn writes(rt: &impl Print, tables: Lent, out: &mut [u8]) -> io::Result<()> {
+    match feed::write(tables, out) {
+        Ok(bytes) => print!(rt; "write done {bytes}")?,
+        Err(refusal) => print!(rt; "write {}", Refused(refusal))?,
     }
-    count
+    let kept = out.iter().filter(|byte| **byte == 170).count();
+    println!(rt; "; {kept} kept")
 }
 
-fn print_byte(byte: u8) {
-    io::print_hex(1, byte as u64, 2);
-}
-
-fn print_bytes(bytes: &[u8]) {
-    for i in 0..bytes.len() {
-        print_byte(bytes[i]);
-    }
-}
-
-fn print_written(writing: Writing) {
-    match writing {
-        Writing::Done(bytes) => print_number(b"write done ", bytes as u64),
-        Writing::Refused(number, place) => {
-            io::write_all(1, b"write ");
-            print_refused(number, place);
-        }
-    }
-}
-
-// What writing answers, and how many bytes of the buffer are as before.
-pub fn writes(
-    heads: Heads,
-    routes: &[u32],
-    positions: &[u32],
-    arrivals: &[u32],
-    departures: &[u32],
-    walks: &[u32],
-    out: &mut [u8],
-) {
-    let writing = feed::write(heads, routes, positions, arrivals, departures, walks, out);
-    print_written(writing);
-    print_number(b"; ", count_kept(out) as u64);
-    io::write_all(1, b" kept\n");
-}
-
-fn print_reading(reading: Reading) {
+// What reading answers, and what the tables hold after it; of an accepted feed 0 to 2 at 100 is asked.
+fn reads(rt: &impl Print, bytes: &[u8]) -> io::Result<()> {
+    let mut routes = [KEPT; 256];
+    let mut positions = [KEPT; 2048];
+    let mut arrivals = [KEPT; 2048];
+    let mut departures = [KEPT; 2048];
+    let mut walks = [KEPT; 1536];
+    let mut room = Room {
+        routes: &mut routes,
+        positions: &mut positions,
+        arrivals: &mut arrivals,
+        departures: &mut departures,
+        walks: &mut walks,
+    };
+    let reading = feed::read(bytes, &mut room);
     match reading {
-        Reading::Done(heads) => {
-            print_number(b"done ", heads.stops as u64);
-            print_number(b" ", heads.routes as u64);
-            print_number(b" ", heads.walks as u64);
-        }
-        Reading::Refused(number, place) => print_refused(number, place),
+        Ok(heads) => print!(rt; "done {} {} {}", heads.stops, heads.routes, heads.walks)?,
+        Err(refusal) => print!(rt; "{}", Refused(refusal))?,
     }
+    print!(rt; "; {}; {}", Rest(&routes), Rest(&positions))?;
+    println!(rt;
+        "; {}; {}; {}",
+        Rest(&arrivals),
+        Rest(&departures),
+        Rest(&walks)
+    )?;
+    let Ok(heads) = reading else {
+        return Ok(());
+    };
+    let tables = Lent {
+        heads,
+        routes: &routes,
+        positions: &positions,
+        arrivals: &arrivals,
+        departures: &departures,
+        walks: &walks,
+    };
+    let q = Question {
+        start: 0,
+        target: 2,
+        time: 100,
+        limit: 8,
+        budget: 100,
+    };
+    asks(rt, tables, q)
 }
 
-// What the tables hold after reading; of an accepted feed 0 to 2 at 100 is asked.
-fn shows(
-    reading: Reading,
-    routes: &[u32],
-    positions: &[u32],
-    arrivals: &[u32],
-    departures: &[u32],
-    walks: &[u32],
-) {
-    print_rest(b"; ", routes);
-    print_rest(b"; ", positions);
-    print_rest(b"; ", arrivals);
-    print_rest(b"; ", departures);
-    print_rest(b"; ", walks);
-    io::write_all(1, b"\n");
-    if let Reading::Done(heads) = reading {
-        let q = Question {
-            start: 0,
-            target: 2,
-            time: 100,
-            limit: 8,
-            budget: 100,
-        };
-        asks(heads, routes, positions, arrivals, departures, walks, q);
-    }
-}
-
-fn reads(name: &[u8], bytes: &[u8]) {
-    let mut t1: [u32; 256] = [KEPT; 256];
-    let mut t2: [u32; 2048] = [KEPT; 2048];
-    let mut t3: [u32; 2048] = [KEPT; 2048];
-    let mut t4: [u32; 2048] = [KEPT; 2048];
-    let mut t5: [u32; 1536] = [KEPT; 1536];
-    io::write_all(1, name);
-    let reading = feed::read(bytes, &mut t1, &mut t2, &mut t3, &mut t4, &mut t5);
-    print_reading(reading);
-    shows(reading, &t1, &t2, &t3, &t4, &t5);
-}
-
-pub fn smallest() {
-    let bytes: [u8; 13] = [
+pub fn smallest(rt: &impl Print) -> io::Result<()> {
+    let bytes = [
         0x54, 0x48, 0x01, 0x00, 0x00, 0x00, 0x00, 0x00, 0x0D, 0x45, 0x44, 0x34, 0x71,
     ];
-    reads(b"* smallest feed\n", &bytes);
-    reads(b"* its first 12 bytes\n", &bytes[0..12]);
+    println!(rt; "* smallest feed")?;
+    reads(rt, &bytes)?;
+    println!(rt; "* its first 12 bytes")?;
+    reads(rt, &bytes[..12])
 }
 
 // A feed of 102 bytes, in a buffer that is one byte too short and in one that is right; and what was written, read.
-pub fn writes_and_reads(
-    heads: Heads,
-    routes: &[u32],
-    positions: &[u32],
-    arrivals: &[u32],
-    departures: &[u32],
-    walks: &[u32],
-) {
-    let mut short: [u8; 101] = [170; 101];
-    let mut right: [u8; 102] = [170; 102];
-    writes(
-        heads, routes, positions, arrivals, departures, walks, &mut short,
-    );
-    writes(
-        heads, routes, positions, arrivals, departures, walks, &mut right,
-    );
-    print_bytes(&right);
-    reads(b"\n", &right);
+pub fn writes_and_reads(rt: &impl Print, tables: Lent) -> io::Result<()> {
+    let mut right = [170; 102];
+    writes(rt, tables, &mut [170; 101])?;
+    writes(rt, tables, &mut right)?;
+    for byte in right {
+        print!(rt; "{byte:02x}")?;
+    }
+    println!(rt)?;
+    reads(rt, &right)
 }

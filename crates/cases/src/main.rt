@@ -1,17 +1,30 @@
-// Document 01's cases through the code. The input is a list of networks and questions with names in 01's words; each name is printed, then what came out.
+// Document 01's cases through the code. The input is a list of networks and questions with names in 01's
+// words; each name is printed, then what came out.
 #![tactic(auto)]
 
 mod asking;
 mod checking;
 mod desk;
 mod feeds;
-mod tables;
+mod showing;
 
-fn main() {
-    let mut input: [u8; 16384] = [0; 16384];
-    let mut numbers: [u32; 7952] = [0; 7952];
-    let length = io::read_full(0, &mut input);
-    desk::follow(&input, length, &mut numbers);
-    asking::lent_tables();
-    feeds::smallest();
+use crate::desk::Desk;
+use std::io;
+use std::io::Read;
+
+// The longest list that is read.
+const LIST: u64 = 16384;
+
+fn main(rt: HostRuntime) -> io::Result<()> {
+    let mut list = Vec::new(rt.alloc());
+    // a list that cannot be read ends there
+    let _ = rt.reader().take(LIST).read_to_end(&mut list);
+    let mut desk = Desk::new();
+    for line in list.split_inclusive(|byte| *byte == b'\n') {
+        // zero bytes before a line are none of it
+        let start = line.iter().position(|byte| *byte != 0);
+        desk.follow(&rt, &line[start.unwrap_or(0)..])?;
+    }
+    asking::lent_tables(&rt)?;
+    feeds::smallest(&rt)
 }

@@ -1,5 +1,5 @@
 -- A block's loop: the remainders of what is added so far, and then the bytes left, make the block's sum.
-use mathlib.Core.Path.{◌≡◌, ap}
+use mathlib.Core.Path.{◌≡◌}
 use mathlib.Core.List.{List}
 use Prim.Native.Nat.{ℕ, ◌+◌, ◌%◌, ◌≤◌, ◌<◌}
 use native.Mathlib.Numerals.{add-one}
@@ -8,8 +8,8 @@ use lib.ListN.{length, get_or, drop, drop_of_length-le}
 use lib.Seq.{drop-cons}
 use Rattle.paper.specs.Feed.{fletcher_step, fletcher_from}
 use Rattle.paper.specs.declared.Sum.{Sum}
-use Rattle.checksum.specs.Small.{Small, Is}
-use Rattle.checksum.specs.Raw.{Raw, added, Block}
+use Rattle.checksum.specs.Small.{Is}
+use Rattle.checksum.specs.Raw.{Raw, added}
 
 -- the remainders that a block leaves for its end
 abbrev rest : Sum → Sum
@@ -20,12 +20,6 @@ pub record Within (s : Sum) (bytes : List ℕ) (raw : Sum) (i : ℕ) : Type 0 wh
   pub bounds : Raw i raw
   pub left : fletcher_from (rest raw) (drop i bytes) ≡ fletcher_from s bytes
 
-rest_small : (s : Sum) → Small s → rest s ≡ s
-rest_small s h =
-    let a : s.first % 255 ≡ s.first = omega (arith, h.first<) in
-    let b : s.second % 255 ≡ s.second = omega (arith, h.second<) in
-    simp (a, b)
-
 mod-add : (x y : ℕ) → (x + y) % 255 ≡ (x % 255 + y % 255) % 255
 mod-add x y = omega arith
 
@@ -35,17 +29,6 @@ unfolding fletcher_step
 rest_added s b =
     let p : (s.first + b) % 255 ≡ (s.first % 255 + b) % 255 = omega arith in
     simp (mod-add s.second (s.first + b), p)
-
-pub within_start : {s : Sum} (bytes : List ℕ) → Block s bytes → Within s bytes s 0
-within_start {s} bytes h =
-    record {
-      short = h.short;
-      bounds = record { first≤ = omega (arith, h.small.first<); second≤ = omega (arith, h.small.second<) };
-      left = ap (λ (x : Sum). fletcher_from x bytes) (rest_small s h.small);
-    }
-
-pub within_room : {s raw : Sum} {bytes : List ℕ} {i : ℕ} → Within s bytes raw i → i < length bytes → Raw 4095 raw
-within_room h l = record { first≤ = omega (arith, h.bounds.first≤, h.short); second≤ = omega (arith, h.bounds.second≤, h.short) }
 
 pub within_step : {s raw r : Sum} (bytes : List ℕ) {i : ℕ} → Within s bytes raw i → i < length bytes → get_or bytes i 0 < 256 → r ≡ added raw (get_or bytes i 0) → Within s bytes r (i + 1)
 unfolding fletcher_from

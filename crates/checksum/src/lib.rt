@@ -26,10 +26,8 @@ fn block(s: Sum, bytes: &[u8]) -> Sum
     ensures { Is (fletcher_from s bytes.now) result }
 {
     let mut raw = s;
-    let mut i: usize = 0;
-    while i < bytes.len() {
-        raw = step(raw, bytes[i]);
-        i += 1;
+    for &byte in bytes {
+        raw = step(raw, byte);
     }
     Sum {
         first: raw.first % 255,
@@ -45,10 +43,8 @@ pub fn fletcher(bytes: &[u8]) -> Sum
         first: 0,
         second: 0,
     };
-    let mut at: usize = 0;
-    while bytes.len() - at > 4096 {
-        s = block(s, &bytes[at..at + 4096]);
-        at += 4096;
+    for part in bytes.chunks(4096) {
+        s = block(s, part);
     }
-    block(s, &bytes[at..])
+    s
 }

@@ -1,35 +1,41 @@
 -- 11: where the walks of a stop begin. The walks rise, so those of one stop stand together, and no two go the same way.
-use mathlib.Core.Path.{◌≡◌, refl, sym, ◌∙◌}
+use mathlib.Core.Path.{◌≡◌, sym, ◌∙◌}
 use mathlib.Core.Logic.{⊎_elim}
-use mathlib.Core.Bool.{Bool}
+use mathlib.Core.Bool.{Bool, true, false}
+use Rattle.std.specs.Prelude.{Option, Some, None, MatchOption, unwrap_or}
 use mathlib.Core.List.{List}
 use Prim.Native.Nat.{ℕ, ◌+◌, ◌*◌, ◌≤◌, ◌<◌}
 use native.Mathlib.Omega.{arith}
 use lib.Dec.{leb}
-use lib.ListN.{length, get_or, set, replicate, length-replicate, length-set}
+use lib.ListN.{length, get_or, set, length-set}
 use lib.Seq.{get_or-set_same, get_or-set_other}
-use borrow.Author.Tests.{leb-true, leb-false, le-leb, lt-leb}
+use borrow.Author.Tests.{leb-true, leb-false, lt-leb}
 use Rattle.laws.proofs.Tests.{by_lt}
 use Rattle.laws.proofs.Checking.{climb_over}
-use Rattle.laws.proofs.Below.{Passed, first_below_le, first_below_not, first_below_hit, first_found_lem, first_end}
+use Rattle.laws.proofs.Below.{Passed, first_below_le, first_below_not, first_below_hit, first_below_is, first_below-only}
 use Rattle.paper.specs.Timetable.{Tables, walk_from, walk_to}
 use Rattle.footpaths.proofs.Stands.{Stands}
-use Rattle.closure.specs.Closed.{Walked, begin_of, BeginsPast, Begins}
+use Rattle.closure.specs.Closed.{Walked, begin_of, BeginsPast}
 
 abbrev pub not_before : Tables → ℕ → ℕ → Bool
 not_before T s w = leb s (walk_from T w)
 
 module _ (T : Tables) (s : ℕ) where
-  pub past_passed : (k : ℕ) → BeginsPast T s k → Passed (not_before T s) k
+  past_passed : (k : ℕ) → BeginsPast T s k → Passed (not_before T s) k
   past_passed k h w l = lt-leb s (walk_from T w) (h.past w l)
 
-  pub begin_here : (w : ℕ) → w < T.walks → Passed (not_before T s) w → s ≤ walk_from T w → w ≡ begin_of T s
+  -- as a search through the walks from k on tells it
+  pub begin_sought : (k : ℕ) (found : Option ℕ) → BeginsPast T s k →
+      MatchOption found ((w : ℕ) → k ≤ w → w < T.walks → not_before T s w ≡ false)
+      (λ w. (k ≤ w) × (w < T.walks) × (not_before T s w ≡ true) × ((v : ℕ) → k ≤ v → v < w → not_before T s v ≡ false))
+      → unwrap_or found T.walks ≡ begin_of T s
   unfolding begin_of
-  begin_here w l h t = first_found_lem T.walks (not_before T s) w l h refl (le-leb s (walk_from T w) t)
-
-  pub begin_end : (w : ℕ) → T.walks ≤ w → w ≤ T.walks → Passed (not_before T s) w → T.walks ≡ begin_of T s
-  unfolding begin_of
-  begin_end w l u h = let e : T.walks ≡ w = omega arith in e ∙ first_end T.walks (not_before T s) w (sym e) h
+  begin_sought k None h f =
+      sym (first_below-only T.walks (not_before T s) T.walks (omega arith)
+      (λ w l. by_lt w k (past_passed k h w) (λ m. f w m l)) (λ l. absurd (omega arith)))
+  begin_sought k (Some x) h f =
+      sym (first_below_is T.walks (not_before T s) x f.1 f.2
+      (λ w l. by_lt w k (past_passed k h w) (λ m. f.3 w m l)))
 
   pub begin_most : begin_of T s ≤ T.walks
   unfolding begin_of
@@ -50,14 +56,6 @@ pub record Begun (T : Tables) (s k : ℕ) (xs : List ℕ) : Type 0 where
   pub is : (x : ℕ) → x < s → get_or xs x 0 ≡ begin_of T x
 
 module _ (T : Tables) (h : Walked T) where
-  pub begun_start : Begun T 0 0 (replicate 257 0)
-  begun_start =
-      record {
-        past = record { walks≤ = h.walks≤; long = h.long; upto = omega arith; past = λ w l. absurd (omega arith) };
-        long = length-replicate {A = ℕ} 257 0;
-        is = λ x l. absurd (omega arith);
-      }
-
   pub begun_next : (s k : ℕ) (xs : List ℕ) {r : ℕ} → Begun T s k xs → s < 257 → r ≡ begin_of T s → Begun T (s + 1) r (set xs s r)
   begun_next s k xs {r} b l e =
       let long : length xs ≡ 257 = b.long in
@@ -73,9 +71,6 @@ module _ (T : Tables) (h : Walked T) where
             (λ n. get_or-set_other xs s x r 0 (λ z. omega arith) ∙ b.is x n)
             (λ n. let z : x ≡ s = omega arith in rw z (get_or-set_same xs s r 0 (omega arith) ∙ e));
       }
-
-  pub begun_end : (s k : ℕ) (xs : List ℕ) → Begun T s k xs → 257 ≤ s → Begins T xs
-  begun_end s k xs b l = record { long = b.long; is = λ x m. b.is x (omega arith) }
 
 -- ---- walks that rise
 

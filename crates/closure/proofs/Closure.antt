@@ -9,7 +9,7 @@ use lib.ListN.{length, get_or}
 use borrow.Author.Tests.{eqb-true, eqb-false, eq-eqb, ne_eqb, lt-ltb, le-ltb}
 use Rattle.laws.specs.Below.{any_below}
 use Rattle.laws.proofs.Tests.{by_test, by_lt, both_ways}
-use Rattle.laws.proofs.Below.{Passed, passed_none, passed_more, any_below_next, any_below_hit, any_below_of, any_below_none, any_below_all_false}
+use Rattle.laws.proofs.Below.{Passed, passed_more, any_below_next, any_below_hit, any_below_of, any_below_none, any_below_all_false}
 use Rattle.paper.specs.Timetable.{Tables, walk_from, walk_to, walk_seconds}
 use Rattle.paper.specs.Rules.{within, gap, opens}
 use Rattle.paper.proofs.Places.{via_right, via_whole}
@@ -104,7 +104,6 @@ module _ (T : Tables) (v : ℕ) where
 pub record Pair (T : Tables) (seconds : List ℕ) (v w : ℕ) : Type 0 where
   pub first : Stands T v
   pub second : Stands T w
-  pub to_stop : walk_to T w < 256
   pub to< : walk_to T w < length seconds
   pub both≤ : walk_seconds T v + walk_seconds T w ≤ 7200
   pub below : w < T.walks
@@ -119,7 +118,6 @@ pair T begins seconds v w h n l =
     record {
       first = stands T h.walked v h.below;
       second = stands T h.walked w b;
-      to_stop = f.2;
       to< = omega (arith, f.2, h.near.long);
       both≤ = omega (arith, (h.walked.walk v h.below).seconds≤, (h.walked.walk w b).seconds≤);
       below = b;
@@ -156,9 +154,6 @@ pub record Turned (T : Tables) (a from : ℕ) (xs : List ℕ) : Type 0 where
   pub near : SecondsFrom T a xs
 
 module _ (T : Tables) where
-  pub looking_start : (xs : List ℕ) → Looking T 0 256 xs
-  looking_start xs = record { upto = omega arith; passed = passed_none (opens T); near = λ l. absurd (omega arith) }
-
   pub turned_new : (a : ℕ) {from : ℕ} {xs ys : List ℕ} → from ≡ a → xs ≡ ys → SecondsFrom T a ys → Turned T a from xs
   turned_new a e q n = record { is = e; near = rw q n }
 

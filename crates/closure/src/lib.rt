@@ -2,46 +2,43 @@
 #![tactic(auto)]
 
 ghost use Rattle.std.specs.Prelude.{◌≡◌};
+ghost use Rattle.paper.specs.Timetable.{lent};
 ghost use Rattle.paper.specs.Rules.{lowest_of, opens};
-ghost use Rattle.places.specs.Place.{place_of};
-ghost use Rattle.footpaths.specs.Walks.{of_walks};
 ghost use Rattle.closure.specs.Closed.{Walked, begin_of, BeginsPast, Begins, SecondsFrom, FromStop, OnWalk};
 
-use paper::MARK;
-use places::Place;
+use paper::{Lent, MARK};
 
 // The first walk, from k on, whose stop is s or a later one.
-fn begin_from(stops: u32, count: u32, walks: &[u32], s: u32, k: u32) -> u32
-    requires { BeginsPast (of_walks stops count walks.now) s k }
-    ensures { result ≡ begin_of (of_walks stops count walks.now) s }
+fn begin_from(tables: Lent, s: u32, k: u32) -> u32
+    requires { BeginsPast (lent tables) s k }
+    ensures { result ≡ begin_of (lent tables.entry) s }
 {
-    for w in k..count {
-        if walks[(w as usize) * 3] >= s {
-            return w;
-        }
-    }
-    count
+    let end = tables.heads.walks;
+    (k..end)
+        .find(|w| tables.walks[(*w as usize) * 3] >= s)
+        .unwrap_or(end)
 }
 
 // Where the walks of each stop begin, and after the last stop where they end.
-fn begins_of(stops: u32, count: u32, walks: &[u32]) -> [u32; 257]
-    requires { Walked (of_walks stops count walks.now) }
-    ensures { Begins (of_walks stops count walks.now) result }
+fn begins_of(tables: Lent) -> [u32; 257]
+    requires { Walked (lent tables) }
+    ensures { Begins (lent tables.entry) result }
 {
     let mut begins: [u32; 257] = [0; 257];
     let mut k: u32 = 0;
     for s in 0..257 {
-        k = begin_from(stops, count, walks, s, k);
+        k = begin_from(tables, s, k);
         begins[s as usize] = k;
     }
     begins
 }
 
 // The seconds to walk from a to each stop: 0 to itself, and the mark where there is no walk.
-fn seconds_from(stops: u32, count: u32, walks: &[u32], begins: &[u32], a: u32) -> [u32; 256]
-    requires { FromStop (of_walks stops count walks.now) begins.now a }
-    ensures { SecondsFrom (of_walks stops count walks.now) a result }
+fn seconds_from(tables: Lent, begins: &[u32], a: u32) -> [u32; 256]
+    requires { FromStop (lent tables) begins.now a }
+    ensures { SecondsFrom (lent tables.entry) a result }
 {
+    let walks = tables.walks;
     let mut seconds: [u32; 256] = [MARK; 256];
     seconds[a as usize] = 0;
     let first = begins[a as usize];
@@ -55,10 +52,11 @@ fn seconds_from(stops: u32, count: u32, walks: &[u32], begins: &[u32], a: u32) -
 
 // Walk v, a to b, is followed by a walk b to c, and no walk a to c takes no longer than both.
 // All walks that follow are tested: that is quicker than a way out at each.
-fn opens_at(stops: u32, count: u32, walks: &[u32], begins: &[u32], seconds: &[u32], v: u32) -> bool
-    requires { OnWalk (of_walks stops count walks.now) begins.now seconds.now v }
-    ensures { result ≡ opens (of_walks stops count walks.now) v }
+fn opens_at(tables: Lent, begins: &[u32], seconds: &[u32], v: u32) -> bool
+    requires { OnWalk (lent tables) begins.now seconds.now v }
+    ensures { result ≡ opens (lent tables.entry) v }
 {
+    let walks = tables.walks;
     let at = (v as usize) * 3;
     let b = walks[at + 1];
     let first = begins[b as usize];
@@ -75,25 +73,27 @@ fn opens_at(stops: u32, count: u32, walks: &[u32], begins: &[u32], seconds: &[u3
 }
 
 // The lowest walk that shows that the walks are not closed.
-pub fn lowest_open(stops: u32, count: u32, walks: &[u32]) -> Place
-    requires { Walked (of_walks stops count walks.now) }
-    ensures { result ≡ place_of (lowest_of count (opens (of_walks stops count walks.now))) }
+pub fn lowest_open(tables: Lent) -> Option<u32>
+    requires { Walked (lent tables) }
+    ensures { let T = lent tables.entry in result ≡ lowest_of T.walks (opens T) }
 {
+    let walks = tables.walks;
+    let count = tables.heads.walks;
     if count == 0 {
-        return Place::Nowhere;
+        return None;
     }
-    let begins = begins_of(stops, count, walks);
+    let begins = begins_of(tables);
     let mut from: u32 = 256;
     let mut seconds: [u32; 256] = [0; 256];
     for v in 0..count {
         let a = walks[(v as usize) * 3];
         if a != from {
             from = a;
-            seconds = seconds_from(stops, count, walks, &begins, a);
+            seconds = seconds_from(tables, &begins, a);
         }
-        if opens_at(stops, count, walks, &begins, &seconds, v) {
-            return Place::At(v);
+        if opens_at(tables, &begins, &seconds, v) {
+            return Some(v);
         }
     }
-    Place::Nowhere
+    None
 }

@@ -6,54 +6,26 @@ ghost use Rattle.paper.specs.Timetable.{lent};
 ghost use Rattle.paper.specs.Lines.{refused_line, question_of, question_lines};
 ghost use Rattle.dialogue.specs.Says.{Says};
 
-use answer_lines::Printed;
-use paper::Heads;
-use question_line::Asked;
+use paper::{Lent, Reason, Refusal};
 
 // A refusal's line, and its length.
-pub fn refuse(number: u32, place: u32, out: &mut [u8]) -> usize
+pub fn refuse(refusal: Refusal, out: &mut [u8]) -> usize
     requires { 4311 ≤ length out.old }
-    ensures { Says (refused_line number place) out.old out.new result }
+    ensures { Says (refused_line refusal.number refusal.place) out.old out.new result }
 {
-    match answer_lines::render_refusal(number, place, out) {
-        Printed::Done(n) => n,
-        Printed::TooShort => 0,
-    }
+    answer_lines::render_refusal(refusal, out).unwrap_or(0)
 }
 
 // The lines of the question in the input, asked of the timetable that was read.
-pub fn answer(
-    heads: Heads,
-    routes: &[u32],
-    positions: &[u32],
-    arrivals: &[u32],
-    departures: &[u32],
-    walks: &[u32],
-    input: &[u8],
-    out: &mut [u8],
-) -> usize
+pub fn answer(tables: Lent, input: &[u8], out: &mut [u8]) -> usize
     requires { 4311 ≤ length out.old }
-    ensures { Says (question_lines (lent heads routes.entry positions.entry arrivals.entry departures.entry walks.entry) (question_of input.now)) out.old out.new result }
+    ensures { Says (question_lines (lent tables.entry) (question_of input.now)) out.old out.new result }
 {
-    let asked = question_line::parse(input);
-    let Asked::Line(q) = asked else {
-        return refuse(12, 0, out);
+    let Some(q) = question_line::parse(input) else {
+        return refuse(Reason::Question.at(0), out);
     };
-    let mut labels: [u32; 2304] = [0; 2304];
-    let mut legs: [u32; 320] = [0; 320];
-    let found = planner::ask(
-        heads,
-        routes,
-        positions,
-        arrivals,
-        departures,
-        walks,
-        &mut labels,
-        &mut legs,
-        q,
-    );
-    match answer_lines::render(found, &legs, out) {
-        Printed::Done(n) => n,
-        Printed::TooShort => 0,
-    }
+    let mut labels = [0; 2304];
+    let mut legs = [0; 320];
+    let found = planner::ask(tables, &mut labels, &mut legs, q);
+    answer_lines::render(found, &legs, out).unwrap_or(0)
 }

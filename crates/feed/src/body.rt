@@ -1,118 +1,86 @@
 // The body of a feed whose length and sum are right: tables cleared, filled, judged, and cleared again where it is bad.
 ghost use Rattle.std.specs.Prelude.{◌≡◌, ◌≤◌, length};
-ghost use Rattle.paper.specs.Timetable.{tables};
+ghost use Rattle.paper.specs.Timetable.{lent};
 ghost use Rattle.paper.specs.Reading.{body_of, length_right, sum_right, cleared};
+ghost use Rattle.route_records.specs.Keep.{Kept};
 ghost use Rattle.records.specs.State.{Full, BodyRoom};
-ghost use Rattle.feed.specs.State.{heads_of, JudgeRoom, answer_of, Cleared, Judged, Leaves};
+ghost use Rattle.feed.specs.State.{heads_of, lists, tables_of, Cleared, Judged, Leaves};
 
 use checksum::fletcher;
-use fields::{byte_in, two_in};
-use paper::{Heads, Reading};
-use records::{Last, read_whole};
-use timetable::{Fault, whole_fault};
+use fields::Fields;
+use paper::{Heads, Lent, Refusal, Room};
+use records::read_whole;
+use timetable::whole_fault;
 
 // The first k of d become 0.
 fn zero(d: &mut [u32], k: usize)
     requires { k ≤ length d.old }
     ensures { d.new ≡ cleared k d.old }
 {
-    let mut i: usize = 0;
-    while i < k {
-        d[i] = 0;
-        i += 1;
-    }
+    d[..k].fill(0);
 }
 
 // The five tables become zero over their full size.
-fn clear(
-    routes: &mut [u32],
-    positions: &mut [u32],
-    arrivals: &mut [u32],
-    departures: &mut [u32],
-    walks: &mut [u32],
-)
-    requires { Full routes.old positions.old arrivals.old departures.old walks.old }
-    ensures { Cleared routes.old routes.new positions.old positions.new arrivals.old arrivals.new departures.old departures.new walks.old walks.new }
+fn clear(room: &mut Room)
+    requires { Full room.old }
+    ensures { Cleared room.old room.new }
 {
-    zero(routes, 256);
-    zero(positions, 2048);
-    zero(arrivals, 2048);
-    zero(departures, 2048);
-    zero(walks, 1536);
+    zero(room.routes, 256);
+    zero(room.positions, 2048);
+    zero(room.arrivals, 2048);
+    zero(room.departures, 2048);
+    zero(room.walks, 1536);
 }
 
 // The head counts of a feed.
 fn heads_of(f: &[u8]) -> Heads
     ensures { result ≡ heads_of f.now }
 {
+    let head = Fields { feed: f, at: 0 };
     Heads {
-        stops: byte_in(f, 0, 3) + 1,
-        routes: byte_in(f, 0, 4),
-        walks: two_in(f, 0, 5),
+        stops: head.byte(3) + 1,
+        routes: head.byte(4),
+        walks: head.two(5),
     }
 }
 
-// The answer when the reading of all records ended at l: a bad record, 7 to 11, or done.
-fn judge(
-    f: &[u8],
-    l: Last,
-    routes: &[u32],
-    positions: &[u32],
-    arrivals: &[u32],
-    departures: &[u32],
-    walks: &[u32],
-) -> Reading
-    requires { JudgeRoom l (tables (heads_of f.now) routes.now positions.now arrivals.now departures.now walks.now) }
-    ensures { result ≡ answer_of l (tables (heads_of f.now) routes.now positions.now arrivals.now departures.now walks.now) }
+// The tables as they stand, with head counts beside them.
+fn seen<'a>(room: &'a Room, heads: Heads) -> Lent<'a>
+    ensures { lent result ≡ tables_of heads (lists room.now) }
 {
-    if l.bad != 0 {
-        return Reading::Refused(l.bad, l.at as u32);
+    Lent {
+        heads,
+        routes: room.routes,
+        positions: room.positions,
+        arrivals: room.arrivals,
+        departures: room.departures,
+        walks: room.walks,
     }
-    let heads = heads_of(f);
-    if let Fault::Refused(number, place) = whole_fault(
-        heads, routes, positions, arrivals, departures, walks,
-    ) {
-        return Reading::Refused(number, place);
-    }
-    Reading::Done(heads)
 }
 
 // All records, judged by 7 to 11. Where they are bad, the tables are not cleared yet.
-fn fill(
-    f: &[u8],
-    routes: &mut [u32],
-    positions: &mut [u32],
-    arrivals: &mut [u32],
-    departures: &mut [u32],
-    walks: &mut [u32],
-) -> Reading
-    requires { BodyRoom f.now routes.old positions.old arrivals.old departures.old walks.old }
-    ensures { Judged f.now result routes.old routes.new positions.old positions.new arrivals.old arrivals.new departures.old departures.new walks.old walks.new }
+fn fill(f: &[u8], room: &mut Room) -> Result<Heads, Refusal>
+    requires { BodyRoom f.now room.old }
+    ensures { Judged f.now result room.old room.new }
 {
-    let l = read_whole(f, routes, positions, arrivals, departures, walks);
-    judge(f, l, routes, positions, arrivals, departures, walks)
+    read_whole(f, room)?;
+    let heads = heads_of(f);
+    whole_fault(seen(room, heads))?;
+    Ok(heads)
 }
 
 // The tables are cleared, filled, and cleared again where the feed is bad.
-pub fn read_body(
-    f: &[u8],
-    routes: &mut [u32],
-    positions: &mut [u32],
-    arrivals: &mut [u32],
-    departures: &mut [u32],
-    walks: &mut [u32],
-) -> Reading
-    requires { BodyRoom f.now routes.old positions.old arrivals.old departures.old walks.old }
-    ensures { Leaves (body_of f.now) result routes.old routes.new positions.old positions.new arrivals.old arrivals.new departures.old departures.new walks.old walks.new }
+pub fn read_body(f: &[u8], room: &mut Room) -> Result<Heads, Refusal>
+    requires { BodyRoom f.now room.old }
+    ensures leaves { Leaves (body_of f.now) result (lists room.old) (lists room.new) }
+    ensures kept { Kept room.old room.new }
 {
-    clear(routes, positions, arrivals, departures, walks);
-    match fill(f, routes, positions, arrivals, departures, walks) {
-        Reading::Done(heads) => Reading::Done(heads),
-        Reading::Refused(number, place) => {
-            clear(routes, positions, arrivals, departures, walks);
-            Reading::Refused(number, place)
-        }
+    clear(room);
+    let read = fill(f, room);
+    if read.is_err() {
+        clear(room);
     }
+    read
 }
 
 // Whether the feed's length is allowed and is the one that its head names.
@@ -120,13 +88,10 @@ pub fn length_fits(f: &[u8]) -> bool
     ensures { result ≡ length_right f.now }
 {
     let n = f.len();
-    if n < 13 {
+    if n < 13 || 17869 < n {
         return false;
     }
-    if 17869 < n {
-        return false;
-    }
-    two_in(f, 0, 7) as usize == n
+    Fields { feed: f, at: 0 }.two(7) as usize == n
 }
 
 // Whether the last two bytes are the sum of all before them.
@@ -134,12 +99,8 @@ pub fn sum_fits(f: &[u8]) -> bool
     requires { 13 ≤ length f.now }
     ensures { result ≡ sum_right f.now }
 {
-    let n = f.len();
-    let s = fletcher(&f[..n - 2]);
-    let first = s.first;
-    let second = s.second;
-    if byte_in(f, 0, n - 2) == first {
-        return byte_in(f, 0, n - 1) == second;
-    }
-    false
+    let at = f.len() - 2;
+    let sum = fletcher(&f[..at]);
+    let end = Fields { feed: f, at };
+    end.byte(0) == sum.first && end.byte(1) == sum.second
 }

@@ -1,155 +1,87 @@
-// The cases that standard input lists, a line each: what it is, a semicolon, and numbers with one space between. They are the feed's length, what is made
-// right (0 nothing, 1 the sum, 2 the end record, the length and the sum), the table that is lent one short or 0, the bytes that there are to write into,
-// and then offset and value of each byte of the bridge network's feed that is another. Behind that feed's 102 bytes stand zeros.
-use crate::bytes::{byte, differing, make_right, put, put_bridge};
-use crate::numbers::{plus, print, wide};
+// The cases that standard input lists, a line each. Their feeds are the bridge network's with some bytes set,
+// and zeros behind it.
+ghost use Rattle.std.specs.Prelude.{◌≤◌, length};
+
+use crate::bytes::{BRIDGE, differing};
+use crate::lines::{Case, set_bytes};
 use crate::passing::{Passed, pass};
-use paper::{Reading, Writing};
+use paper::Refusal;
+use std::io;
+use std::io::{Read, Write};
 
-// Where a line is: whether what it is has been said, which number comes, and the numbers so far.
-#[derive(Clone, Copy)]
-struct Line {
-    said: bool,
-    field: u32,
-    value: u32,
-    length: u32,
-    right: u32,
-    short: u32,
-    room: u32,
-    at: u32,
+// One byte more than the longest feed has.
+const MOST: usize = 17870;
+
+fn print_refusal(rt: &impl Print, refusal: Refusal) -> io::Result<()> {
+    println!(rt; " {} {}", refusal.number, refusal.place)
 }
 
-fn start() -> Line {
-    Line {
-        said: false,
-        field: 0,
-        value: 0,
-        length: 0,
-        right: 0,
-        short: 0,
-        room: 0,
-        at: 0,
+// What reading answers, and where the feed is accepted what writing answers. Of what was written the size is
+// printed, and how many of its bytes differ from the feed's.
+fn print_passed(rt: &impl Print, feed: &[u8], out: &[u8], passed: &Passed) -> io::Result<()> {
+    let heads = match passed.reading {
+        Ok(heads) => heads,
+        Err(refusal) => return print_refusal(rt, refusal),
+    };
+    print!(rt;
+        " done {} {} {}, written",
+        heads.stops, heads.routes, heads.walks
+    )?;
+    match passed.writing {
+        Ok(size) => println!(rt; " done {size}, differing {}", differing(feed, out)),
+        Err(refusal) => print_refusal(rt, refusal),
     }
 }
 
-// What was read is written: the bytes, and how many of them differ from the feed's.
-fn print_writing(feed: &[u8], out: &[u8], answer: Writing) {
-    io::write_all(1, b", written");
-    match answer {
-        Writing::Done(size) => {
-            io::write_all(1, b" done");
-            print(size);
-            io::write_all(1, b", differing");
-            print(differing(feed, out, size as usize));
+// The feed is read, and written where it is accepted. Feed and room are as long as the line says, if there are
+// so many bytes.
+fn run(rt: &impl Print, line: &[u8]) -> io::Result<()> {
+    let case = Case::of(line);
+    let mut bytes = [0; MOST];
+    let mut room = [0; MOST];
+    bytes[..BRIDGE.len()].copy_from_slice(&BRIDGE);
+    set_bytes(line, &mut bytes);
+    let (Some(feed), Some(out)) = (bytes.get_mut(..case.length), room.get_mut(..case.room)) else {
+        return Ok(());
+    };
+    case.right.make(feed);
+    let passed = pass(feed, case.short, out);
+    print_passed(rt, feed, out, &passed)
+}
+
+// One line: what it is is printed, and its numbers are run if it is whole.
+fn run_line(rt: &impl Print, line: &[u8]) -> io::Result<()> {
+    let mut parts = line.splitn(2, |byte| *byte == b';');
+    if let Some(name) = parts.next() {
+        io::writer(rt).write_all(name)?;
+    }
+    match parts.next().and_then(|numbers| numbers.strip_suffix(b"\n")) {
+        Some(numbers) => run(rt, numbers),
+        None => Ok(()),
+    }
+}
+
+// How many bytes were read, until the text is full or the input ends. It ends where a read fails. No method of std
+// fills a buffer as far as the input goes and says how far that is.
+fn read_full(reader: &mut impl Read, text: &mut [u8]) -> usize
+    ensures { result ≤ length text.new }
+{
+    let mut n = 0;
+    while n < text.len() {
+        let got = reader.read(&mut text[n..]).unwrap_or(0);
+        if got == 0 {
+            break;
         }
-        Writing::Refused(number, place) => {
-            print(number);
-            print(place);
-        }
+        n += got;
     }
+    n
 }
 
-fn print_passed(feed: &[u8], out: &[u8], p: Passed) {
-    let reading = p.reading;
-    let writing = p.writing;
-    match reading {
-        Reading::Done(heads) => {
-            io::write_all(1, b" done");
-            print(heads.stops);
-            print(heads.routes);
-            print(heads.walks);
-            print_writing(feed, out, writing);
-        }
-        Reading::Refused(number, place) => {
-            print(number);
-            print(place);
-        }
+pub fn cases(rt: &(impl Input + Print)) -> io::Result<()> {
+    let mut text = [0; 8192];
+    let n = read_full(&mut rt.reader(), &mut text);
+    for line in text[..n].split_inclusive(|byte| *byte == b'\n') {
+        run_line(rt, line)?;
     }
-}
-
-// The feed is read, and written where it is accepted.
-fn run(feed: &mut [u8], out: &mut [u8], line: Line) {
-    make_right(feed, line.right);
-    let p = pass(feed, line.short, out, 0);
-    print_passed(feed, out, p);
-    io::write_all(1, b"\n");
-}
-
-// The feed, and what there is to write into, are as long as the line says.
-fn run_parts(feed: &mut [u8], out: &mut [u8], line: Line) {
-    let n = line.length as usize;
-    let room = line.room as usize;
-    if n <= feed.len() {
-        if room <= out.len() {
-            run(&mut feed[..n], &mut out[..room], line);
-        }
-    }
-}
-
-// The line with one number more.
-fn counted(line: Line) -> Line {
-    let value = line.value;
-    let field = line.field;
-    let mut l = line;
-    l.field = plus(field, 1);
-    l.value = 0;
-    match field {
-        0 => l.length = value,
-        1 => l.right = value,
-        2 => l.short = value,
-        3 => l.room = value,
-        _ => l.at = value,
-    }
-    l
-}
-
-// The byte that the line's number sets, if it is the value behind an offset.
-fn set(feed: &mut [u8], line: Line) {
-    if (4 < line.field) & (line.field % 2 == 1) {
-        put(feed, line.at as usize, line.value);
-    }
-}
-
-// One byte more of what the line is, to its semicolon, or one digit more of a number.
-fn more(line: Line, c: u8) -> Line {
-    let mut l = line;
-    if line.said {
-        l.value = line.value % 100000 * 10 + wide(c) % 16;
-        return l;
-    }
-    if c == 0x3B {
-        l.said = true;
-        return l;
-    }
-    let one: [u8; 1] = [c];
-    io::write_all(1, &one);
-    l
-}
-
-// One byte more of the line.
-fn step(feed: &mut [u8], out: &mut [u8], line: Line, c: u8) -> Line {
-    if !line.said | ((0x30 <= c) & (c <= 0x39)) {
-        return more(line, c);
-    }
-    set(feed, line);
-    let k = counted(line);
-    if c != 0x0A {
-        return k;
-    }
-    run_parts(feed, out, k);
-    put_bridge(feed);
-    start()
-}
-
-pub fn cases() {
-    let mut text: [u8; 8192] = [0; 8192];
-    let mut feed: [u8; 17870] = [0; 17870];
-    let mut out: [u8; 17870] = [0; 17870];
-    let n = io::read_full(0, &mut text);
-    put_bridge(&mut feed);
-    let mut line = start();
-    for i in 0..n {
-        let c = byte(&text, i);
-        line = step(&mut feed, &mut out, line, c);
-    }
+    Ok(())
 }

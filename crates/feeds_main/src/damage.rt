@@ -1,76 +1,71 @@
-// Every byte of the bridge network's feed damaged three ways: how many are refused by each number, where 0 is accepted, and a digest of all answers and
-// tables.
-use crate::bytes::{byte, make_right, put, put_bridge};
-use crate::numbers::{get, less, plus, print, wide};
+// Every byte of the bridge network's feed damaged three ways: how many are refused by each number, where 0 is
+// accepted, and a digest of all answers and tables.
+use crate::bytes::{BRIDGE, Right};
+use crate::digest::Digest;
 use crate::passing::{Passed, pass};
-use paper::Reading;
+use std::io;
 
-// One more, its highest bit turned, or all its bits turned.
-fn other(value: u32, way: usize) -> u32 {
-    match way {
-        0 => plus(value, 1),
-        1 => value ^ 0x80,
-        _ => less(255, value),
+#[derive(Clone, Copy)]
+enum Damage {
+    OneMore,
+    HighestBit,
+    AllBits,
+}
+
+impl Damage {
+    const ALL: [Damage; 3] = [Damage::OneMore, Damage::HighestBit, Damage::AllBits];
+
+    // One more, its highest bit turned, or all its bits turned.
+    fn of(self, byte: u8) -> u8 {
+        match self {
+            Damage::OneMore => byte.wrapping_add(1),
+            Damage::HighestBit => byte ^ 0x80,
+            Damage::AllBits => !byte,
+        }
     }
 }
 
-// The byte at `at` is damaged one way, and the sum is left or made right: 0 or 1.
-fn damaged(at: usize, way: usize, right: u32, digest: u32) -> Passed {
-    let mut feed: [u8; 102] = [0; 102];
-    let mut out: [u8; 102] = [0; 102];
-    put_bridge(&mut feed);
-    let value = other(wide(byte(&feed, at)), way);
-    put(&mut feed, at, value);
-    make_right(&mut feed, right);
-    pass(&feed, 0, &mut out, digest)
-}
-
-// The refusal's number, or 0.
-fn number_of(answer: Reading) -> u32 {
-    match answer {
-        Reading::Done(heads) => 0,
-        Reading::Refused(number, place) => number,
+// The byte at `at` is damaged one way, and the sum is left or made right.
+fn damaged(at: usize, damage: Damage, right: Right) -> Passed {
+    let mut feed = BRIDGE;
+    let mut out = [0; 102];
+    if let Some(byte) = feed.get_mut(at) {
+        *byte = damage.of(*byte);
     }
+    right.make(&mut feed);
+    pass(&feed, None, &mut out)
 }
 
-// One more of this number.
-fn count(counts: &mut [u32], number: u32) {
-    let so_far = get(counts, number);
-    crate::numbers::put(counts, number, plus(so_far, 1));
-}
-
-fn print_count(count: u32, number: u32) {
-    if count != 0 {
-        print(count);
-        io::write_all(1, b" of");
-        print(number);
+// How many are refused by each number, where 0 is accepted.
+fn print_counts(rt: &impl Print, counts: &[u32]) -> io::Result<()> {
+    for (number, count) in counts.iter().enumerate() {
+        if *count != 0 {
+            print!(rt; " {count} of {number}")?;
+        }
     }
+    Ok(())
 }
 
-fn print_counts(counts: &[u32]) {
-    for k in 0..16 {
-        print_count(get(counts, k), k);
+fn damages_of(rt: &impl Print, right: Right) -> io::Result<()> {
+    let mut counts = [0u32; 16];
+    let mut digest = Digest::default();
+    for at in 0..BRIDGE.len() {
+        for damage in Damage::ALL {
+            let passed = damaged(at, damage, right);
+            let number = passed.reading.err().map_or(0, |refusal| refusal.number);
+            if let Some(count) = counts.get_mut(number as usize) {
+                *count = count.saturating_add(1);
+            }
+            digest = passed.added_to(digest);
+        }
     }
+    print_counts(rt, &counts)?;
+    println!(rt; ", digest {digest}")
 }
 
-fn damages_of(right: u32) {
-    let mut counts: [u32; 16] = [0; 16];
-    let mut digest: u32 = 0;
-    for i in 0..306 {
-        let p = damaged(i / 3, i % 3, right, digest);
-        let reading = p.reading;
-        count(&mut counts, number_of(reading));
-        digest = p.digest;
-    }
-    print_counts(&counts);
-    io::write_all(1, b", digest");
-    print(digest);
-    io::write_all(1, b"\n");
-}
-
-pub fn damages() {
-    io::write_all(1, b"every byte damaged, the sum left:");
-    damages_of(0);
-    io::write_all(1, b"every byte damaged, the sum made right:");
-    damages_of(1);
+pub fn damages(rt: &impl Print) -> io::Result<()> {
+    print!(rt; "every byte damaged, the sum left:")?;
+    damages_of(rt, Right::Nothing)?;
+    print!(rt; "every byte damaged, the sum made right:")?;
+    damages_of(rt, Right::Sum)
 }

@@ -1,18 +1,25 @@
-// Feeds through `feed::read` and `feed::write`: the cases that standard input lists, damaged feeds, and networks written and read back.
+// Feeds through `feed::read` and `feed::write`: the cases that standard input lists, damaged feeds, and
+// networks written and read back.
 #![tactic(auto)]
 
 mod bytes;
 mod cases;
 mod damage;
+mod dice;
+mod digest;
+mod lines;
+mod network;
 mod networks;
-mod numbers;
 mod passing;
+mod tables;
 mod times;
 mod trials;
 mod walks;
 
-fn main() {
-    cases::cases();
-    damage::damages();
-    trials::trials();
+use std::io;
+
+fn main(rt: HostRuntime) -> io::Result<()> {
+    cases::cases(&rt)?;
+    damage::damages(&rt)?;
+    trials::trials(&rt)
 }

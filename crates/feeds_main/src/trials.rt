@@ -1,134 +1,84 @@
 // Networks written, read back into other tables, compared, and written again.
 use crate::bytes::differing;
-use crate::networks::network;
-use crate::numbers::{get, mixed, plus, print, wide};
-use crate::passing::{pass, read_feed, write_of};
-use paper::{Heads, Reading, Writing};
+use crate::digest::Digest;
+use crate::network::Network;
+use crate::networks::{longest, network};
+use crate::passing::pass;
+use crate::tables::Tables;
+use std::{fmt, io};
 
 // Over all networks so far: routes, walks, bytes, a digest of the bytes, and what differs.
-#[derive(Clone, Copy)]
+#[derive(Clone, Copy, Default)]
 struct Totals {
     routes: u32,
     walks: u32,
-    bytes: u32,
-    digest: u32,
-    differences: u32,
+    bytes: usize,
+    digest: Digest,
+    differences: usize,
+}
+
+impl fmt::Display for Totals {
+    fn fmt<W: fmt::Write>(&self, f: &mut fmt::Formatter<W>) -> fmt::Result {
+        let Totals {
+            routes,
+            walks,
+            bytes,
+            digest,
+            differences,
+        } = *self;
+        write!(
+            f,
+            "routes {routes}, walks {walks}, bytes {bytes}, digest {digest}, differences {differences}"
+        )
+    }
 }
 
 // How many numbers of tables 1 to 5 differ.
-fn differing_numbers(a: &[u32], b: &[u32]) -> u32 {
-    let mut count: u32 = 0;
-    for i in 0..7936 {
-        count = plus(count, (get(a, i) != get(b, i)) as u32);
-    }
-    count
+fn differing_numbers(a: &Tables, b: &Tables) -> usize {
+    a.all().iter().zip(b.all()).fold(
+        0usize,
+        |count, (a, b)| count.saturating_add(differing(a, b)),
+    )
 }
 
-// Whether head counts differ from those of an accepted feed: 0 or 1.
-fn differing_heads(heads: Heads, answer: Reading) -> u32 {
-    match answer {
-        Reading::Done(h) => ((heads.stops != h.stops)
-            | (heads.routes != h.routes)
-            | (heads.walks != h.walks)) as u32,
-        Reading::Refused(number, place) => 1,
-    }
-}
-
-fn mixed_bytes(digest: u32, feed: &[u8]) -> u32 {
-    let mut all = digest;
-    let mut i: usize = 0;
-    while i < feed.len() {
-        all = mixed(all, wide(feed[i]));
-        i += 1;
-    }
-    all
-}
-
-// The number of bytes, or 0.
-fn size_of(answer: Writing) -> u32 {
-    match answer {
-        Writing::Done(size) => size,
-        Writing::Refused(number, place) => 0,
-    }
+// What differs when the feed of a network is read into other tables, which hold 9.
+fn differing_back(net: &Network, feed: &[u8]) -> usize {
+    let mut tables = Tables::new(9);
+    let reading = feed::read(feed, &mut tables.room(None));
+    differing_numbers(&net.tables, &tables).saturating_add(usize::from(reading != Ok(net.heads)))
 }
 
 // What differs when the feed is read and written again.
-fn differing_again(feed: &[u8]) -> u32 {
-    let mut out: [u8; 17869] = [255; 17869];
-    let p = pass(feed, 0, &mut out, 0);
-    let n = feed.len();
-    let writing = p.writing;
-    let other = (size_of(writing) as usize != n) as u32;
-    plus(other, differing(feed, &out, n))
+fn differing_again(feed: &[u8]) -> usize {
+    let mut out = [255; 17869];
+    let passed = pass(feed, None, &mut out);
+    let size = passed.writing.unwrap_or(0) as usize;
+    differing(feed, &out).saturating_add(usize::from(size != feed.len()))
 }
 
-// What differs when the feed of these tables is read into others, which hold 9.
-fn differing_back(heads: Heads, tables: &[u32], feed: &[u8]) -> u32 {
-    let after = read_feed(feed, 0, 9);
-    let answer = after.answer;
-    let d = differing_numbers(tables, &after.tables);
-    plus(d, differing_heads(heads, answer))
-}
-
-// The totals with one network more, whose feed is the first `size` bytes.
-fn added(t: Totals, heads: Heads, tables: &[u32], out: &[u8], size: u32) -> Totals {
-    let n = size as usize;
-    if out.len() < n {
-        return t;
-    }
-    let feed = &out[..n];
-    let d = differing_back(heads, tables, feed);
-    let e = differing_again(feed);
-    Totals {
-        routes: plus(t.routes, heads.routes),
-        walks: plus(t.walks, heads.walks),
-        bytes: plus(t.bytes, size),
-        digest: mixed_bytes(t.digest, feed),
-        differences: plus(t.differences, plus(d, e)),
+impl Totals {
+    // With one network more, written and read back. One that is refused has no bytes, and so differs.
+    fn and(self, net: &Network) -> Totals {
+        let mut out = [0; 17869];
+        let lent = net.tables.lent(net.heads);
+        let size = feed::write(lent, &mut out).unwrap_or(0) as usize;
+        let Some(feed) = out.get(..size) else {
+            return self;
+        };
+        let differences = differing_back(net, feed).saturating_add(differing_again(feed));
+        Totals {
+            routes: self.routes.saturating_add(net.heads.routes),
+            walks: self.walks.saturating_add(net.heads.walks),
+            bytes: self.bytes.saturating_add(size),
+            digest: self.digest.and_all(feed),
+            differences: self.differences.saturating_add(differences),
+        }
     }
 }
 
-// Network k, written and read back. One that is refused has no bytes, and so differs.
-fn trial(k: u32, t: Totals) -> Totals {
-    let mut tables: [u32; 7936] = [0; 7936];
-    let mut out: [u8; 17869] = [0; 17869];
-    let heads = network(k, &mut tables);
-    let answer = write_of(heads, &tables, &mut out);
-    added(t, heads, &tables, &out, size_of(answer))
-}
-
-// Networks from one number to another.
-fn totals_of(from: u32, to: u32) -> Totals {
-    let mut t = Totals {
-        routes: 0,
-        walks: 0,
-        bytes: 0,
-        digest: 0,
-        differences: 0,
-    };
-    for k in from..to {
-        t = trial(k, t);
-    }
-    t
-}
-
-fn print_totals(t: Totals) {
-    io::write_all(1, b" routes");
-    print(t.routes);
-    io::write_all(1, b", walks");
-    print(t.walks);
-    io::write_all(1, b", bytes");
-    print(t.bytes);
-    io::write_all(1, b", digest");
-    print(t.digest);
-    io::write_all(1, b", differences");
-    print(t.differences);
-    io::write_all(1, b"\n");
-}
-
-pub fn trials() {
-    io::write_all(1, b"400 networks written and read back:");
-    print_totals(totals_of(0, 400));
-    io::write_all(1, b"the longest feed:");
-    print_totals(totals_of(400, 401));
+pub fn trials(rt: &impl Print) -> io::Result<()> {
+    let many = (0..400).fold(Totals::default(), |totals, k| totals.and(&network(k)));
+    println!(rt; "400 networks written and read back: {many}")?;
+    let one = Totals::default().and(&longest());
+    println!(rt; "the longest feed: {one}")
 }

@@ -1,97 +1,79 @@
-// Walks that are closed by the way they are made: groups of neighbouring stops, in which each member walks to every other one way or both.
-use crate::numbers::{WALKS, drawn, less, next, plus, put};
+// Walks that are closed by the way they are made: groups of neighbouring stops, in which each member walks to
+// every other one way or both.
+use crate::dice::Seed;
+use crate::network::Network;
+use std::ops::Range;
 
-fn apart(a: u32, b: u32) -> u32 {
-    plus(less(a, b), less(b, a))
+// How members of a group walk: both ways, one way, or both ways and evenly.
+#[derive(Clone, Copy)]
+enum Way {
+    Both,
+    Upwards,
+    Downwards,
+    Evenly,
 }
 
-// The seconds between stops a and b, along a line: evenly, where two walks take as long as the one past both; or scattered.
-fn seconds(a: u32, b: u32, even: bool, seed: u32) -> u32 {
-    if even {
-        return apart(a, b) % 512 * 7;
-    }
-    let x = drawn(next(plus(seed, a)), 3600);
-    let y = drawn(next(plus(seed, b)), 3600);
-    plus(apart(x, y), 1)
-}
-
-// Whether members walk from a to b: 1 upwards, 2 downwards, else both ways.
-fn walked(a: u32, b: u32, way: u32) -> bool {
-    match way {
-        1 => a < b,
-        2 => b < a,
-        _ => a != b,
+// A drawn number; 0 is both ways.
+impl From<u32> for Way {
+    fn from(number: u32) -> Way {
+        match number {
+            1 => Way::Upwards,
+            2 => Way::Downwards,
+            3 => Way::Evenly,
+            _ => Way::Both,
+        }
     }
 }
 
-// The walk from a to b, if there is to be one. The answer is how many walks there are then.
-fn put_walk(tables: &mut [u32], count: u32, a: u32, b: u32, way: u32, seed: u32) -> u32 {
-    if !walked(a, b, way) {
-        return count;
+impl Way {
+    // Whether members walk from a to b.
+    fn leads(self, a: u32, b: u32) -> bool {
+        match self {
+            Way::Upwards => a < b,
+            Way::Downwards => b < a,
+            Way::Both | Way::Evenly => a != b,
+        }
     }
-    let at = WALKS + count % 512 * 3;
-    put(tables, at, a);
-    put(tables, at + 1, b);
-    put(tables, at + 2, seconds(a, b, way == 3, seed));
-    plus(count, 1)
+
+    // The seconds between stops a and b, along a line: evenly, where two walks take as long as the one past
+    // both; or scattered.
+    fn seconds(self, a: u32, b: u32, seed: Seed) -> u32 {
+        if let Way::Evenly = self {
+            return a.abs_diff(b) % 512 * 7;
+        }
+        let [x, y] = [a, b].map(|stop| Seed(seed.0.wrapping_add(stop)).next().drawn(3600));
+        x.abs_diff(y).saturating_add(1)
+    }
 }
 
-// The walks from stop a to the stops from `first` to `end`.
-fn put_walks_from(
-    tables: &mut [u32],
-    count: u32,
-    a: u32,
-    first: u32,
-    end: u32,
-    way: u32,
-    seed: u32,
-) -> u32 {
-    let mut w = count;
-    for b in first..end {
-        w = put_walk(tables, w, a, b, way, seed);
+// The walks from the stops of one range to those of another.
+fn put_group(net: &mut Network, from: Range<u32>, to: Range<u32>, way: Way, seed: Seed) {
+    for a in from {
+        for b in to.start..to.end {
+            if way.leads(a, b) {
+                net.add_walk([a, b, way.seconds(a, b, seed)]);
+            }
+        }
     }
-    w
-}
-
-// The walks of the stops from `low` to `high` to those from `first` to `end`.
-fn put_group(
-    tables: &mut [u32],
-    count: u32,
-    low: u32,
-    high: u32,
-    first: u32,
-    end: u32,
-    way: u32,
-    seed: u32,
-) -> u32 {
-    let mut w = count;
-    for a in low..high {
-        w = put_walks_from(tables, w, a, first, end, way, seed);
-    }
-    w
 }
 
 // 512 walks, which no other walk follows.
-pub fn put_most_walks(tables: &mut [u32]) -> u32 {
-    put_group(tables, 0, 0, 32, 32, 48, 0, 1)
+pub fn put_most_walks(net: &mut Network) {
+    put_group(net, 0..32, 32..48, Way::Both, Seed(1));
 }
 
-// A group of up to 23 stops and then groups of up to 8, as long as there are stops for them and walks for the largest. The answer is how many walks there are.
-pub fn put_walks(tables: &mut [u32], stops: u32, seed: u32) -> u32 {
-    let mut w: u32 = 0;
-    let mut s = seed;
+// A group of up to 23 stops and then groups of up to 8, as long as there are stops for them and walks for the
+// largest.
+pub fn put_walks(net: &mut Network, mut seed: Seed) {
     let mut first: u32 = 0;
-    let mut size = plus(drawn(seed, 23), 1);
-    for g in 0..stops {
-        s = next(s);
-        let end = if (plus(first, size) <= stops) & (w <= 456) {
-            plus(first, size)
-        } else {
-            first
-        };
-        w = put_group(tables, w, first, end, first, end, drawn(s, 4), s);
-        first = end;
-        size = plus(drawn(s / 16, 8), 1);
+    let mut size = seed.drawn(23).saturating_add(1);
+    for _ in 0..net.heads.stops {
+        seed = seed.next();
+        let end = first.saturating_add(size);
+        if end <= net.heads.stops && net.heads.walks <= 456 {
+            put_group(net, first..end, first..end, Way::from(seed.drawn(4)), seed);
+            first = end;
+        }
+        size = seed.part(16).drawn(8).saturating_add(1);
     }
-    w
 }

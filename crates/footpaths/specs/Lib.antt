@@ -1,2 +1,2 @@
--- What rule 10's functions read and need.
+-- What rule 10's functions need.
 pub mod Walks

@@ -2,17 +2,19 @@
 #![tactic(auto)]
 
 ghost use Rattle.std.specs.Prelude.{◌≡◌};
+ghost use Rattle.paper.specs.Timetable.{lent};
 ghost use Rattle.paper.specs.Rules.{lowest_of, walk_broken};
-ghost use Rattle.places.specs.Place.{place_of};
-ghost use Rattle.footpaths.specs.Walks.{of_walks, WalksLent, AtWalk};
+ghost use Rattle.footpaths.specs.Walks.{WalksLent, AtWalk};
 
-use places::Place;
+use paper::Lent;
 
 // One walk, and that it rises from the walk before it.
-fn walk_broken(stops: u32, count: u32, walks: &[u32], w: u32) -> bool
-    requires { AtWalk (of_walks stops count walks.now) w }
-    ensures { result ≡ walk_broken (of_walks stops count walks.now) w }
+fn walk_broken(tables: Lent, w: u32) -> bool
+    requires { AtWalk (lent tables) w }
+    ensures { result ≡ walk_broken (lent tables.entry) w }
 {
+    let walks = tables.walks;
+    let stops = tables.heads.stops;
     let at = (w as usize) * 3;
     let from = walks[at];
     let to = walks[at + 1];
@@ -29,14 +31,9 @@ fn walk_broken(stops: u32, count: u32, walks: &[u32], w: u32) -> bool
 }
 
 // The lowest broken walk.
-pub fn lowest_walk(stops: u32, count: u32, walks: &[u32]) -> Place
-    requires { WalksLent (of_walks stops count walks.now) }
-    ensures { result ≡ place_of (lowest_of count (walk_broken (of_walks stops count walks.now))) }
+pub fn lowest_walk(tables: Lent) -> Option<u32>
+    requires { WalksLent (lent tables) }
+    ensures { let T = lent tables.entry in result ≡ lowest_of T.walks (walk_broken T) }
 {
-    for w in 0..count {
-        if walk_broken(stops, count, walks, w) {
-            return Place::At(w);
-        }
-    }
-    Place::Nowhere
+    (0..tables.heads.walks).find(|w| walk_broken(tables, *w))
 }

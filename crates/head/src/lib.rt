@@ -5,31 +5,23 @@ ghost use Rattle.std.specs.Prelude.{◌≤◌, length};
 ghost use Rattle.paper.specs.Reading.{head_bad};
 ghost use Rattle.head.specs.Head.{HeadDone};
 
-use fields::{begins_in, byte_in, two_in};
-
-// The head's refusal: its number and place, or 0 and 0.
-#[derive(Clone, Copy)]
-pub struct Head {
-    pub bad: u32,
-    pub at: usize,
-}
+use fields::Fields;
+use paper::{Reason, Refusal};
 
 // The tests in 01's order: mark, edition, counts. A byte is a right number of stops.
-pub fn read_head(f: &[u8]) -> Head
+pub fn read_head(f: &[u8]) -> Result<(), Refusal>
     requires { 13 ≤ length f.now }
     ensures { HeadDone (head_bad f.now) result }
 {
-    if !begins_in(f, 0, 0x5448) {
-        return Head { bad: 3, at: 0 };
+    let head = Fields { feed: f, at: 0 };
+    if !head.begins(0x5448) {
+        return Err(Reason::Form.at(0));
     }
-    if byte_in(f, 0, 2) != 1 {
-        return Head { bad: 4, at: 2 };
+    if head.byte(2) != 1 {
+        return Err(Reason::Edition.at(2));
     }
-    if 64 < byte_in(f, 0, 4) {
-        return Head { bad: 5, at: 0 };
+    if head.byte(4) > 64 || head.two(5) > 512 {
+        return Err(Reason::Count.at(0));
     }
-    if 512 < two_in(f, 0, 5) {
-        return Head { bad: 5, at: 0 };
-    }
-    Head { bad: 0, at: 0 }
+    Ok(())
 }

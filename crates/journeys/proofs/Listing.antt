@@ -15,7 +15,7 @@ use Rattle.laws.specs.Below.{mark, min_below}
 use Rattle.laws.specs.Lists.{tab, pieces, over}
 use Rattle.laws.proofs.Tests.{by_lt}
 use Rattle.laws.proofs.Below.{min_below_next}
-use Rattle.laws.proofs.Lists.{length-pieces, pieces_same, length_over, over-over}
+use Rattle.laws.proofs.Lists.{length-pieces, pieces_same, over-over}
 use Rattle.paper.specs.Timetable.{Tables}
 use Rattle.paper.specs.Tie.{is_entry, entry_of, entries_below, entries_of, legs_of}
 use Rattle.paper.specs.Reply.{zero_entry, in_nine, leg_numbers, legs_row, legs_table}
@@ -251,9 +251,6 @@ module _ {T : Tables} {q : Question} {labels legs₀ legs : List ℕ} {listed : 
             legs_are = f.legs_are ∙ ap (λ (xs : List ℕ). over xs legs₀) (below_skip T q k none_here);
             size = f.size;
           }
-
-  pub listing_length : (d : List ℕ) → legs₀ ≡ over (replicate 320 mark) d → 320 ≤ length d → length legs ≡ length d
-  listing_length d e h = f.size ∙ ap length e ∙ length_over (replicate 320 mark) d (rw length-replicate h)
 
   pub listing_end : (d : List ℕ) → legs₀ ≡ over (replicate 320 mark) d → q.limit < k → ReadBack T q d legs listed.count listed.entries
   unfolding entries_of

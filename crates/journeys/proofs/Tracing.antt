@@ -1,45 +1,27 @@
 -- Legs read back one by one: what the loop that writes them keeps, from the last leg to the first.
+use Rattle.std.specs.Prelude.{Option, Some, None}
 use mathlib.Core.Path.{◌≡◌, refl, sym, ap, ap₂, ◌∙◌}
 use mathlib.Core.List.{List, [], ◌∷◌, ◌++◌, append_assoc, append-nil}
-use mathlib.Core.Option.{some}
 use Prim.Native.Nat.{ℕ, suc, ◌+◌, ◌*◌, ◌-◌, ◌≤◌, ◌<◌}
 use native.Mathlib.Numerals.{sub-one}
 use native.Mathlib.Omega.{arith}
 use lib.ListN.{length}
-use lib.Seq.{sets, length-sets}
+use lib.Seq.{sets}
 use Rattle.paper.specs.Timetable.{Tables, n_of}
-use Rattle.paper.specs.Rows.{row_in}
 use Rattle.paper.specs.Tie.{board_stop, numbers_of}
 use Rattle.paper.specs.Reply.{leg_numbers}
 use Rattle.paper.specs.declared.Leg.{Leg}
 use Rattle.paper.proofs.Usable.{stop_is}
-use Rattle.steps.specs.declared.Found.{Found}
-use Rattle.steps.specs.declared.Found.TheVariants.{Step, Nothing}
-use Rattle.steps.specs.Search.{found_of, Searched}
-use Rattle.journeys.specs.ReadBack.{step_in, Stepping, Placed, placed_stop, legs_in, Leads, here, back, Traceable}
+use Rattle.journeys.specs.ReadBack.{step_in, Placed, placed_stop, legs_in, Leads, here, back, Traceable}
 use Rattle.paper.proofs.RouteEnds.{head_in, positions_in}
-use Rattle.laws.specs.Lists.{part}
-use Rattle.laws.proofs.Lists.{length_part, get_d_part}
+use Rattle.laws.proofs.Found.{some_none, some_same}
 use Rattle.laws.proofs.Runs.{sets_front}
-
--- the rows k and k + 1 are those that the search asks for
-pub stepping_searched : {T : Tables} {labels : List ℕ} {k p : ℕ} → Stepping T labels k p → Searched T (row_in labels k T.stops) (part (k * 256 + 256) (k * 256 + T.stops + 256) labels)
-stepping_searched {T} {labels} {k} ok =
-    let few = ok.few in
-    let a = length_part labels (k * 256) (k * 256 + T.stops) (omega (arith, ok.room, ok.fit.sound.stops≤)) in
-    let b = length_part labels (k * 256 + 256) (k * 256 + T.stops + 256) (omega (arith, ok.room, ok.fit.sound.stops≤)) in
-    record {
-      fit = ok.fit;
-      labelled = omega arith;
-      next_labelled = omega arith;
-      next_first = λ s l. let h = ok.rides s l in let e = get_d_part labels (k * 256 + 256) (k * 256 + T.stops + 256) s 0 (omega arith) in omega arith;
-    }
 
 -- the step that is found, and where it leads
 record Back (T : Tables) (labels : List ℕ) (k p : ℕ) : Type 0 where
   leg : Leg
   stop< : p < T.stops
-  found : step_in T labels k p ≡ some leg
+  found : step_in T labels k p ≡ Some leg
   route< : leg.route < T.routes
   board< : leg.board < n_of T leg.route
   on : Leads T labels k (board_stop T leg)
@@ -48,15 +30,12 @@ back_of : (T : Tables) (labels : List ℕ) (j p : ℕ) → Leads T labels j p �
 back_of T labels j p here h = absurd (omega arith)
 back_of T labels j p (back g s f r b on) h = simp sub-one (record { leg = g; stop< = s; found = f; route< = r; board< = b; on = on })
 
-module _ (T : Tables) (labels : List ℕ) (k p : ℕ) (b : Back T labels k p) {r : Found} (e : r ≡ found_of (step_in T labels k p)) where
-  is_step : r ≡ Step b.leg
-  is_step = e ∙ ap found_of b.found
+module _ (T : Tables) (labels : List ℕ) (k p : ℕ) (b : Back T labels k p) {r : Option Leg} (e : r ≡ step_in T labels k p) where
+  the_leg : (g : Leg) → r ≡ Some g → b.leg ≡ g
+  the_leg g q = some_same (sym b.found ∙ sym e ∙ q)
 
-  the_leg : (g : Leg) → r ≡ Step g → b.leg ≡ g
-  the_leg g q = let z : Step b.leg ≡ Step g = sym is_step ∙ q in cc
-
-  not_nothing : r ≡ Nothing → ⊥
-  not_nothing q = let y : Step b.leg ≡ Nothing = sym is_step ∙ q in let z : ◌≡◌ {A = ℕ} 0 1 = cc in omega arith
+  not_nothing : r ≡ None → ⊥
+  not_nothing q = some_none b.found (sym e ∙ q)
 
 -- the legs below j are still to be found, those from j on are written
 pub record Tracing (T : Tables) (labels : List ℕ) (k target : ℕ) (legs₀ legs : List ℕ) (p j : ℕ) : Type 0 where
@@ -67,7 +46,7 @@ pub record Tracing (T : Tables) (labels : List ℕ) (k target : ℕ) (legs₀ le
   pub parts : legs_in T labels k target ≡ legs_in T labels j p ++ tail
   pub written : legs ≡ sets legs₀ (k * 40 - 40 + j * 5) (leg_numbers tail)
 
-pub legs_in_step : (T : Tables) (labels : List ℕ) (k p : ℕ) (g : Leg) → step_in T labels k p ≡ some g → legs_in T labels (suc k) p ≡ legs_in T labels k (board_stop T g) ++ (g ∷ [])
+pub legs_in_step : (T : Tables) (labels : List ℕ) (k p : ℕ) (g : Leg) → step_in T labels k p ≡ Some g → legs_in T labels (suc k) p ≡ legs_in T labels k (board_stop T g) ++ (g ∷ [])
 unfolding legs_in
 legs_in_step T labels k p g e = rw (e, legs_in)
 
@@ -77,27 +56,15 @@ tracing_start {T} {labels} {k} {p} d ok =
     record { ok = ok; few = omega arith; leads = ok.leads; tail = []; parts = sym (append-nil (legs_in T labels k p)); written = refl }
 
 module _ {T : Tables} {labels : List ℕ} {k target : ℕ} {legs₀ legs : List ℕ} {p j : ℕ} (t : Tracing T labels k target legs₀ legs p j) where
-  pub tracing_length : length legs ≡ length legs₀
-  tracing_length = ap length t.written ∙ length-sets legs₀ _ (leg_numbers t.tail)
-
   module _ (l : 0 < j) where
     found_back : Back T labels (j - 1) p
     found_back = back_of T labels j p t.leads l
 
-    pub tracing_stepping : Stepping T labels (j - 1) p
-    tracing_stepping = record {
-      fit = t.ok.fit;
-      room = t.ok.labels_room;
-      few = let a = t.few in omega (arith, t.ok.few);
-      stop = found_back.stop<;
-      rides = t.ok.rides (j - 1) (let a = t.few in omega arith);
-    }
-
-    module _ {r : Found} (e : r ≡ found_of (step_in T labels (j - 1) p)) where
-      pub tracing_found : r ≡ Nothing → ⊥
+    module _ {r : Option Leg} (e : r ≡ step_in T labels (j - 1) p) where
+      pub tracing_found : r ≡ None → ⊥
       tracing_found = not_nothing T labels (j - 1) p found_back e
 
-      module _ (g : Leg) (q : r ≡ Step g) where
+      module _ (g : Leg) (q : r ≡ Some g) where
         same : found_back.leg ≡ g
         same = the_leg T labels (j - 1) p found_back e g q
 
@@ -120,7 +87,7 @@ module _ {T : Tables} {labels : List ℕ} {k target : ℕ} {legs₀ legs : List 
         on_from : Leads T labels (j - 1) (board_stop T g)
         on_from = rw (← same) found_back.on
 
-        found_it : step_in T labels (j - 1) p ≡ some g
+        found_it : step_in T labels (j - 1) p ≡ Some g
         found_it = rw (← same) found_back.found
 
         legs_split : legs_in T labels j p ≡ legs_in T labels (j - 1) (board_stop T g) ++ (g ∷ [])

@@ -1,6 +1,5 @@
 -- Reading an entry's legs and all entries back from the labels: what its parts ask and answer.
-use Rattle.std.specs.Prelude.{◌≡◌, false, List, [], ◌∷◌, ◌++◌, ℕ, zero, suc, ◌+◌, ◌*◌, ◌≤◌, ◌<◌, length, get_or, set}
-use Rattle.std.proofs.Math.Option.{Option, none, some}
+use Rattle.std.specs.Prelude.{◌≡◌, false, List, [], ◌∷◌, ◌++◌, ℕ, zero, suc, ◌+◌, ◌*◌, ◌≤◌, ◌<◌, length, get_or, set, Option, Some, None}
 use Rattle.laws.specs.Lists.{over}
 use Rattle.paper.specs.Rules.{Fit}
 use Rattle.paper.specs.Timetable.{Tables, n_of}
@@ -48,14 +47,14 @@ unfoldable pub legs_in : Tables → List ℕ → ℕ → ℕ → List Leg
 legs_in T labels zero p = []
 legs_in T labels (suc k) p =
     elim (step_in T labels k p) [
-      | none ↦ []
-      | some g ↦ legs_in T labels k (board_stop T g) ++ (g ∷ [])
+      | None ↦ []
+      | Some g ↦ legs_in T labels k (board_stop T g) ++ (g ∷ [])
     ]
 
 -- there are such legs: each step is found, on a route and at a position that is there
 pub data Leads (T : Tables) (labels : List ℕ) : ℕ → ℕ → Type 0 where
   here : {p : ℕ} → Leads T labels 0 p
-  back : {k p : ℕ} (g : Leg) → p < T.stops → step_in T labels k p ≡ some g → g.route < T.routes → g.board < n_of T g.route → Leads T labels k (board_stop T g) → Leads T labels (suc k) p
+  back : {k p : ℕ} (g : Leg) → p < T.stops → step_in T labels k p ≡ Some g → g.route < T.routes → g.board < n_of T g.route → Leads T labels k (board_stop T g) → Leads T labels (suc k) p
 
 pub record Traceable (T : Tables) (labels : List ℕ) (room k p : ℕ) : Type 0 where
   pub fit : Fit T

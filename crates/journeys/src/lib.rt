@@ -10,9 +10,9 @@ ghost use Rattle.journeys.specs.ReadBack.{listed_also, Readable, ReadBack};
 mod legs;
 
 use crate::legs::trace;
-use paper::{Entry, Heads, MARK, Question};
+use paper::{Entry, Lent, MARK, Question};
 
-// The first `count` of the entries are those found, the others are zero.
+// The first `count` of the entries are those found, the others are zero: memory is fixed, and C is given nine entries and their count.
 #[derive(Clone, Copy)]
 pub struct Listed {
     pub count: u32,
@@ -24,11 +24,7 @@ pub fn clear(legs: &mut [u32])
     requires { 320 ≤ length legs.old }
     ensures { legs.new ≡ over (replicate 320 mark) legs.old }
 {
-    let mut i: usize = 0;
-    while i < 320 {
-        legs[i] = MARK;
-        i += 1;
-    }
+    legs[..320].fill(MARK);
 }
 
 // The label of stop s in row k.
@@ -47,30 +43,17 @@ fn list_also(listed: Listed, k: u32, arrival: u32) -> Listed
 {
     let place = listed.count as usize;
     let mut entries = listed.entries;
-    entries[place] = Entry {
-        rides: k,
-        arrival: arrival,
-    };
+    entries[place] = Entry { rides: k, arrival };
     Listed {
         count: listed.count + 1,
-        entries: entries,
+        entries,
     }
 }
 
 // Lists each k at which row k brings the target earlier than every row before it, and writes its legs.
-pub fn read_back(
-    heads: Heads,
-    routes: &[u32],
-    positions: &[u32],
-    arrivals: &[u32],
-    departures: &[u32],
-    walks: &[u32],
-    labels: &[u32],
-    legs: &mut [u32],
-    q: Question,
-) -> Listed
-    requires { Readable (lent heads routes positions arrivals departures walks) q labels.now (length legs.old) }
-    ensures { ReadBack (lent heads routes.entry positions.entry arrivals.entry departures.entry walks.entry) q legs.old legs.new result.count result.entries }
+pub fn read_back(tables: Lent, labels: &[u32], legs: &mut [u32], q: Question) -> Listed
+    requires { Readable (lent tables) q labels.now (length legs.old) }
+    ensures { ReadBack (lent tables.entry) q legs.old legs.new result.count result.entries }
 {
     clear(legs);
     let mut listed = Listed {
@@ -81,17 +64,13 @@ pub fn read_back(
         }; 9],
     };
     let mut best = MARK;
-    let mut k: u32 = 0;
-    while k <= q.limit {
+    for k in 0..=q.limit {
         let arrival = label_at(labels, k, q.target);
         if arrival < best {
             best = arrival;
             listed = list_also(listed, k, arrival);
-            trace(
-                heads, routes, positions, arrivals, departures, walks, labels, legs, q.target, k,
-            );
+            trace(tables, labels, legs, q.target, k);
         }
-        k += 1;
     }
     listed
 }

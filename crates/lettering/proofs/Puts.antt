@@ -1,22 +1,19 @@
 -- Runs of bytes put into a buffer, one after the other.
 use mathlib.Core.Path.{◌≡◌, refl, sym, ap, ◌∙◌}
-use mathlib.Core.List.{List, [], ◌∷◌, ◌++◌, append_assoc}
+use mathlib.Core.List.{List, [], ◌++◌, append_assoc}
 use Prim.Native.Nat.{ℕ, ◌+◌, ◌*◌, ◌≤◌, ◌<◌}
 use native.Mathlib.Nat.{mul-suc}
 use native.Mathlib.Numerals.{add-one}
 use native.Mathlib.Omega.{arith}
-use lib.ListN.{length, get_or, set, take, drop, length-append, length-set, take-append-drop}
-use lib.Seq.{set_split, length-take-le, take_at, drop_at, drop-drop, take-suc, take-length}
+use lib.ListN.{length, take, drop, length-append, take-append-drop}
+use lib.Seq.{length-take-le, take_at, drop_at, drop-drop}
 use Rattle.laws.specs.Lists.{pieces}
 use Rattle.laws.proofs.Lists.{pieces_next}
-use Rattle.lettering.specs.Put.{Put}
+use Rattle.lettering.specs.declared.Pen.{Pen}
+use Rattle.lettering.specs.Put.{Put, Wrote}
 
 pub put_none : {at : ℕ} {d : List ℕ} → at ≤ length d → Put [] 0 at d d at
 put_none {at} {d} h = record { is = sym (take-append-drop at d); next = omega arith; bound = omega arith; fits = h; keeps = refl }
-
-pub put_store : {at : ℕ} {d : List ℕ} (b : ℕ) → at + 1 ≤ length d → Put (b ∷ []) 1 at d (set d at b) (at + 1)
-put_store {at} {d} b h =
-    record { is = rw add-one (set_split d at b (omega arith)); next = omega arith; bound = omega arith; fits = h; keeps = length-set d at b }
 
 module _ {xs ys : List ℕ} {m n at : ℕ} {d e f : List ℕ} {r s : ℕ} (p : Put xs m at d e r) (q : Put ys n r e f s) where
   front : length (take at d ++ xs) ≡ r
@@ -60,50 +57,36 @@ put_within {xs} {ys} {m} {n} {at} {d} {e} {r} h l p =
     let z : r ≡ at + length ys = rw h at p.next in
     record { is = rw h at p.is; next = z; bound = omega arith; fits = p.fits; keeps = p.keeps }
 
--- ---- a word, byte after byte
+-- ---- the same with a pen
 
-pub record Copied (word : List ℕ) (at : ℕ) (d e : List ℕ) (next i : ℕ) : Type 0 where
-  pub within : i ≤ length word
-  pub put : Put (take i word) i at d e next
+-- the pen has put xs, and then ys
+pub wrote_append : {xs ys : List ℕ} {m n : ℕ} {p q r : Pen} → Wrote xs m p q → Wrote ys n q r → Wrote (xs ++ ys) (m + n) p r
+wrote_append a b = record { put = put_append a.put b.put; same = b.same ∙ a.same }
 
-pub copied_start : (word : List ℕ) {at : ℕ} {d : List ℕ} → at ≤ length d → Copied word at d d at 0
-copied_start word h = record { within = omega arith; put = put_none h }
+pub wrote_same : {xs ys : List ℕ} {m n : ℕ} {p q : Pen} → xs ≡ ys → m ≤ n → Wrote xs m p q → Wrote ys n p q
+wrote_same h l a = record { put = put_same h l a.put; same = a.same }
 
-pub copied_step :
-    {word : List ℕ} {at : ℕ} {d e f : List ℕ} {next i r : ℕ}
-    → Copied word at d e next i → i < length word → Put (get_or word i 0 ∷ []) 1 next e f r → Copied word at d f r (i + 1)
-copied_step {word} {i} h l p =
-    record {
-      within = omega arith;
-      put = put_same (rw add-one (sym (take-suc word i 0 l))) (omega arith) (put_append h.put p);
-    }
-
-pub copied_end :
-    {word : List ℕ} {at : ℕ} {d e : List ℕ} {next i : ℕ} → Copied word at d e next i → length word ≤ i → Put word (length word) at d e next
-copied_end {word} {i} h l =
-    let z : i ≡ length word = omega (arith, h.within) in
-    put_same (rw z (take-length word)) (omega arith) h.put
+pub wrote_within : {xs ys : List ℕ} {m n : ℕ} {p q : Pen} → xs ≡ ys → length ys ≤ n → Wrote xs m p q → Wrote ys n p q
+wrote_within h l a = record { put = put_within h l a.put; same = a.same }
 
 -- ---- lists one after the other
 
-pub record Along (g : ℕ → List ℕ) (most n at : ℕ) (d e : List ℕ) (next i : ℕ) : Type 0 where
+pub record Along (g : ℕ → List ℕ) (most n : ℕ) (p q : Pen) (i : ℕ) : Type 0 where
   pub within : i ≤ n
-  pub put : Put (pieces i g) (most * i) at d e next
+  pub wrote : Wrote (pieces i g) (most * i) p q
 
-pub along_start : (g : ℕ → List ℕ) (most n : ℕ) {at : ℕ} {d : List ℕ} → at ≤ length d → Along g most n at d d at 0
+pub along_start : (g : ℕ → List ℕ) (most n : ℕ) {p : Pen} → p.at ≤ length p.out.now → Along g most n p p 0
 unfolding pieces
-along_start g most n h = record { within = omega arith; put = put_same refl (omega arith) (put_none h) }
+along_start g most n h = record { within = omega arith; wrote = record { put = put_same refl (omega arith) (put_none h); same = refl } }
 
 pub along_step :
-    {g : ℕ → List ℕ} {most n at : ℕ} {d e f : List ℕ} {next i r : ℕ}
-    → Along g most n at d e next i → i < n → Put (g i) most next e f r → Along g most n at d f r (i + 1)
-along_step {g} {most} {n} {at} {d} {e} {f} {next} {i} {r} h l p =
+    {g : ℕ → List ℕ} {most n i : ℕ} {p q r : Pen} → Along g most n p q i → i < n → Wrote (g i) most q r → Along g most n p r (i + 1)
+along_step {g} {most} {i = i} h l w =
     let z : most * (i + 1) ≡ most * i + most = rw (add-one, mul-suc) in
-    record { within = omega arith; put = put_same (sym (pieces_next i g)) (omega arith) (put_append h.put p) }
+    record { within = omega arith; wrote = wrote_same (sym (pieces_next i g)) (omega arith) (wrote_append h.wrote w) }
 
 pub along_end :
-    {g : ℕ → List ℕ} {most n at : ℕ} {d e : List ℕ} {next i : ℕ} (all : ℕ)
-    → Along g most n at d e next i → n ≤ i → most * n ≤ all → Put (pieces n g) all at d e next
-along_end {g} {most} {n} {at} {d} {e} {next} {i} all h l b =
+    {g : ℕ → List ℕ} {most n i : ℕ} {p q : Pen} (all : ℕ) → Along g most n p q i → n ≤ i → most * n ≤ all → Wrote (pieces n g) all p q
+along_end {g} {most} {n} {i} all h l b =
     let z : i ≡ n = omega (arith, h.within) in
-    put_same (rw z) (rw z b) h.put
+    wrote_same (rw z) (rw z b) h.wrote

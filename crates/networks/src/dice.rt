@@ -1,5 +1,6 @@
-// Numbers that look drawn and are the same in every run: a seed gives a row of numbers, and seeds for the parts of what it stands for.
-ghost use Rattle.std.specs.Prelude.{◌<◌};
+// Numbers that look drawn and are the same in every run: a seed gives a row of numbers, and seeds for the
+// parts of what it stands for.
+ghost use Rattle.std.specs.Prelude.{◌<◌, ◌≤◌};
 
 // The seed after this one.
 fn next(seed: u64) -> u64
@@ -24,14 +25,16 @@ pub fn part(seed: u32, k: u32) -> u32
 }
 
 // Number k of a seed, from 0 to `most`.
-pub fn draw(seed: u32, k: u32, most: u32) -> u32 {
+pub fn draw(seed: u32, k: u32, most: u32) -> u32
+    ensures { result ≤ most }
+{
     (part(seed, k) as u64 * (most as u64 + 1) / 2147483648) as u32
 }
 
-// Number k of a seed: how far apart times may be drawn. Often it is not at all, so that trips are equal and rides take no time.
+// Number k of a seed: how far apart times may be drawn. Often it is not at all, so that trips are equal and
+// rides take no time.
 pub fn spread(seed: u32, k: u32) -> u32 {
-    let kind = draw(seed, k, 6);
-    match kind {
+    match draw(seed, k, 6) {
         0 | 1 => 0,
         2 => 1,
         3 | 4 => 3,

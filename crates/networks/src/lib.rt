@@ -2,6 +2,8 @@
 #![tactic(auto)]
 
 pub mod dice;
+mod driving;
 pub mod network;
 pub mod questions;
-mod routes;
+mod tables;
+mod walking;

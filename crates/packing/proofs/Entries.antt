@@ -19,7 +19,6 @@ front count es i = count ∷ pieces i (λ j. pair_of (get_or es j zero_entry))
 -- i pairs are stored in d₀, which has become d
 pub record Storing (count : ℕ) (es : List Entry) (d₀ d : List ℕ) (i : ℕ) : Type 0 where
   pub i≤ : i ≤ 9
-  pub kept : length d ≡ length d₀
   pub is : d ≡ over (front count es i) d₀
 
 length_front : (count : ℕ) (es : List Entry) (i : ℕ) → length (front count es i) ≡ 2 * i + 1
@@ -39,7 +38,6 @@ count_stored count d h = over_store [] d count 0 refl (omega arith)
 pub storing_start : (count : ℕ) (es : List Entry) (d : List ℕ) → 19 ≤ length d → Storing count es (set d 0 count) (set d 0 count) 0
 storing_start count es d h = record {
   i≤ = omega arith;
-  kept = refl;
   is =
       count_stored count d h
       ∙ sym (over-over (front count es 0) (count ∷ []) d (omega (arith, length_front count es 0)) ∙ ap (λ (x : List ℕ). over x d) (front_none count es))
@@ -47,20 +45,21 @@ storing_start count es d h = record {
 }
 
 pub storing_more :
-    (count : ℕ) (es : List Entry) (d₀ d : List ℕ) (i : ℕ) → Storing count es d₀ d i → i < 9 → 19 ≤ length d₀
-    → Storing count es d₀ (set (set d (2 * i + 1) (get_or es i zero_entry).rides) (2 * i + 2) (get_or es i zero_entry).arrival) (i + 1)
-storing_more count es d₀ d i s l h =
+    {count : ℕ} {es : List Entry} {d : List ℕ} {i : ℕ} (d₀ : List ℕ) → Storing count es (set d₀ 0 count) d i → i < 9 → 19 ≤ length d₀
+    → Storing count es (set d₀ 0 count) (set (set d (2 * i + 1) (get_or es i zero_entry).rides) (2 * i + 2) (get_or es i zero_entry).arrival) (i + 1)
+storing_more {count} {es} {d} {i} d₀ s l h =
     let e : Entry = get_or es i zero_entry in
     let xs : List ℕ = front count es i in
     let n : length xs ≡ 2 * i + 1 = length_front count es i in
+    let d₁ : List ℕ = set d₀ 0 count in
+    let room : 19 ≤ length d₁ = omega (arith, length-set d₀ 0 count) in
     record {
       i≤ = omega arith;
-      kept = simp length-set s.kept;
       is =
           ap (λ (x : List ℕ). set (set x (2 * i + 1) e.rides) (2 * i + 2) e.arrival) s.is
-          ∙ ap (λ (x : List ℕ). set x (2 * i + 2) e.arrival) (over_store xs d₀ e.rides (2 * i + 1) n (omega arith))
-          ∙ over_store (xs ++ (e.rides ∷ [])) d₀ e.arrival (2 * i + 2) (length-append xs (e.rides ∷ []) ∙ omega arith) (omega arith)
-          ∙ ap (λ (x : List ℕ). over x d₀) (append_assoc xs (e.rides ∷ []) (e.arrival ∷ []) ∙ sym (front_more count es i) ∙ ap (front count es) (sym (add-one i)));
+          ∙ ap (λ (x : List ℕ). set x (2 * i + 2) e.arrival) (over_store xs d₁ e.rides (2 * i + 1) n (omega arith))
+          ∙ over_store (xs ++ (e.rides ∷ [])) d₁ e.arrival (2 * i + 2) (length-append xs (e.rides ∷ []) ∙ omega arith) (omega arith)
+          ∙ ap (λ (x : List ℕ). over x d₁) (append_assoc xs (e.rides ∷ []) (e.arrival ∷ []) ∙ sym (front_more count es i) ∙ ap (front count es) (sym (add-one i)));
     }
 
 -- too short: nothing is written
@@ -69,10 +68,10 @@ unfolding entries_after
 short_kept count es d h = rw (lt-ltb (length d) 19 h) refl
 
 pub storing_end :
-    (count : ℕ) (es : List Entry) (d₀ d : List ℕ) (i : ℕ) → 19 ≤ length d₀ → Storing count es (set d₀ 0 count) d i → 9 ≤ i
+    {count : ℕ} {es : List Entry} {d : List ℕ} {i : ℕ} (d₀ : List ℕ) → 19 ≤ length d₀ → Storing count es (set d₀ 0 count) d i → 9 ≤ i
     → d ≡ entries_after count es d₀
 unfolding entries_after entry_numbers
-storing_end count es d₀ d i h s l =
+storing_end {count} {es} {d} {i} d₀ h s l =
     let nine : i ≡ 9 = omega (arith, s.i≤) in
     s.is
     ∙ ap (λ (k : ℕ). over (front count es k) (set d₀ 0 count)) nine

@@ -4,10 +4,10 @@ use Prim.Native.Nat.{ℕ, ◌<◌}
 use native.Mathlib.Omega.{arith}
 use lib.ListN.{replicate}
 use Rattle.laws.specs.Lists.{pieces}
-use Rattle.paper.specs.Rules.{Refusal}
+use Rattle.std.specs.Prelude.{Ok}
+use Rattle.paper.specs.declared.Refusal.{Refusal}
 use Rattle.paper.specs.Reply.{refused}
 use Rattle.paper.specs.declared.Heads.{Heads}
-use Rattle.paper.specs.declared.Reading.{Reading}
 use Rattle.packing.specs.Packed.{packed, reading_number, entry_numbers}
 
 pub packed_told : (n₁ p₁ n₂ p₂ : ℕ) → p₁ < 4294967296 → p₂ < 4294967296 → packed n₁ p₁ ≡ packed n₂ p₂ → (n₁ ≡ n₂) × (p₁ ≡ p₂)
@@ -15,7 +15,7 @@ packed_told n₁ p₁ n₂ p₂ l₁ l₂ e = (omega arith, omega arith)
 
 pub heads_told :
     (h k : Heads) → h.stops < 1024 → k.stops < 1024 → h.routes < 128 → k.routes < 128
-    → reading_number (Reading.Done h) ≡ reading_number (Reading.Done k)
+    → reading_number (Ok h) ≡ reading_number (Ok k)
     → (h.stops ≡ k.stops) × ((h.routes ≡ k.routes) × (h.walks ≡ k.walks))
 heads_told h k a₁ a₂ b₁ b₂ e = (omega arith, (omega arith, omega arith))
 

@@ -1,34 +1,25 @@
 -- 01's answers as one number each, and the entries as nineteen.
-use Rattle.std.specs.Prelude.{cond, List, [], ◌∷◌, ℕ, ◌+◌, ◌*◌, ltb, length, get_or}
+use Rattle.std.specs.Prelude.{cond, List, [], ◌∷◌, ℕ, ◌+◌, ◌*◌, ltb, length, get_or, Result, Ok, Err}
 use Rattle.laws.specs.Lists.{over, pieces}
+use Rattle.paper.specs.declared.Refusal.{Refusal}
 use Rattle.paper.specs.Reply.{zero_entry}
-use Rattle.paper.specs.declared.Checked.{Checked}
-use Rattle.paper.specs.declared.Reading.{Reading}
-use Rattle.paper.specs.declared.Writing.{Writing}
+use Rattle.paper.specs.declared.Heads.{Heads}
 use Rattle.paper.specs.declared.Entry.{Entry}
-use Rattle.paper.specs.declared.Verdict.{Verdict}
 
 -- ---- an answer as one number: a refusal's number stands above the low 32 bits, where its place stands, or else a count
 
 abbrev pub packed : ℕ → ℕ → ℕ
 packed number place = number * 4294967296 + place
 
-abbrev pub checked_number : Checked → ℕ
-checked_number (Checked.Done limit) = limit
-checked_number (Checked.Refused number place) = packed number place
+-- what checking, writing or asking answers: the count is the work limit, the bytes, or the work
+abbrev pub checked_number : Result ℕ Refusal → ℕ
+checked_number (Ok count) = count
+checked_number (Err x) = packed x.number x.place
 
 -- there are fewer than 1,024 stops and 128 routes, so the three counts stand beside each other
-abbrev pub reading_number : Reading → ℕ
-reading_number (Reading.Done h) = h.stops + 1024 * h.routes + 131072 * h.walks
-reading_number (Reading.Refused number place) = packed number place
-
-abbrev pub writing_number : Writing → ℕ
-writing_number (Writing.Done bytes) = bytes
-writing_number (Writing.Refused number place) = packed number place
-
-abbrev pub verdict_number : Verdict → ℕ
-verdict_number (Verdict.Answered work) = work
-verdict_number (Verdict.Refused number place) = packed number place
+abbrev pub reading_number : Result Heads Refusal → ℕ
+reading_number (Ok h) = h.stops + 1024 * h.routes + 131072 * h.walks
+reading_number (Err x) = packed x.number x.place
 
 -- ---- the entries: their count, then nine pairs of rides and arrival
 

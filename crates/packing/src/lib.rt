@@ -2,56 +2,39 @@
 #![tactic(auto)]
 
 ghost use Rattle.std.specs.Prelude.{◌≡◌};
-ghost use Rattle.packing.specs.Packed.{packed, checked_number, reading_number, writing_number, verdict_number, entries_after};
+ghost use Rattle.packing.specs.Packed.{packed, checked_number, reading_number, entries_after};
 
-use paper::{Checked, Entry, Heads, Reading, Verdict, Writing};
+use paper::{Entry, Heads, Refusal};
 
 // A refusal: its number above the low 32 bits, its place in them.
-fn pack(number: u32, place: u32) -> u64
-    ensures { result ≡ packed number place }
+fn pack(refusal: Refusal) -> u64
+    ensures { result ≡ packed refusal.number refusal.place }
 {
-    (number as u64) * 4294967296 + (place as u64)
+    u64::from(refusal.number) * 4294967296 + u64::from(refusal.place)
 }
 
-pub fn checked_number(checked: Checked) -> u64
+// What checking, writing or asking answers: the work limit, the bytes or the work, or the refusal packed.
+pub fn checked_number(checked: Result<u32, Refusal>) -> u64
     ensures { result ≡ checked_number checked }
 {
     match checked {
-        Checked::Done(limit) => limit as u64,
-        Checked::Refused(number, place) => pack(number, place),
+        Ok(count) => u64::from(count),
+        Err(refusal) => pack(refusal),
     }
 }
 
 fn heads_number(heads: Heads) -> u64
-    ensures { result ≡ reading_number (Reading.Done heads) }
+    ensures { result ≡ reading_number (Ok heads) }
 {
-    (heads.stops as u64) + 1024 * (heads.routes as u64) + 131072 * (heads.walks as u64)
+    u64::from(heads.stops) + 1024 * u64::from(heads.routes) + 131072 * u64::from(heads.walks)
 }
 
-pub fn reading_number(reading: Reading) -> u64
+pub fn reading_number(reading: Result<Heads, Refusal>) -> u64
     ensures { result ≡ reading_number reading }
 {
     match reading {
-        Reading::Done(heads) => heads_number(heads),
-        Reading::Refused(number, place) => pack(number, place),
-    }
-}
-
-pub fn writing_number(writing: Writing) -> u64
-    ensures { result ≡ writing_number writing }
-{
-    match writing {
-        Writing::Done(bytes) => bytes as u64,
-        Writing::Refused(number, place) => pack(number, place),
-    }
-}
-
-pub fn verdict_number(verdict: Verdict) -> u64
-    ensures { result ≡ verdict_number verdict }
-{
-    match verdict {
-        Verdict::Answered(work) => work as u64,
-        Verdict::Refused(number, place) => pack(number, place),
+        Ok(heads) => heads_number(heads),
+        Err(refusal) => pack(refusal),
     }
 }
 
@@ -64,11 +47,8 @@ pub fn put_entries(count: u32, listed: [Entry; 9], entries: &mut [u32])
         return;
     }
     entries[0] = count;
-    let mut i: usize = 0;
-    while i < 9 {
-        let entry = listed[i];
+    for (i, entry) in listed.iter().enumerate() {
         entries[2 * i + 1] = entry.rides;
         entries[2 * i + 2] = entry.arrival;
-        i += 1;
     }
 }

@@ -2,7 +2,7 @@
 use mathlib.Core.Path.{◌≡◌, refl, sym, ap, ◌∙◌, subst}
 use mathlib.Core.List.{List, [], ◌∷◌}
 use mathlib.Core.Bool.{Bool, true, false, cond, ◌&&◌}
-use mathlib.Core.Option.{Option, none, some}
+use Rattle.std.specs.Prelude.{Option, Some, None}
 use Prim.Native.Nat.{ℕ, ◌+◌, ◌*◌, ◌-◌, ◌≤◌, ◌<◌}
 use native.Mathlib.Omega.{arith}
 use lib.ListN.{length, take, length-append, get_or-eq_default}
@@ -36,12 +36,12 @@ pub record Passed (f : List ℕ) (T : Tables) : Type 0 where
   pub sum : sum_right f ≡ true
   pub well : (whole_of f).bad ≡ 0
   pub is : tables_in f ≡ T
-  pub rules : first_broken whole_rules T ≡ none
+  pub rules : first_broken whole_rules T ≡ None
 
-judged_inv : (S T : Tables) (x : Option Refusal) → judged S x ≡ Accepted T → (S ≡ T) × (x ≡ none)
+judged_inv : (S T : Tables) (x : Option Refusal) → judged S x ≡ Accepted T → (S ≡ T) × (x ≡ None)
 unfolding judged
-judged_inv S T none h = (cc, refl)
-judged_inv S T (some x) h = let z : ◌≡◌ {A = ℕ} 0 1 = cc in absurd (omega arith)
+judged_inv S T None h = (cc, refl)
+judged_inv S T (Some x) h = let z : ◌≡◌ {A = ℕ} 0 1 = cc in absurd (omega arith)
 
 pub passed : (f : List ℕ) (T : Tables) → read_of f ≡ Accepted T → Passed f T
 unfolding read_of body_of
@@ -206,7 +206,7 @@ pub record Told (f : List ℕ) (T : Tables) : Type 0 where
   pub feed : feed_of T ≡ f
   pub counts : Counts T
   pub exact : Exact T
-  pub rules : first_broken whole_rules T ≡ none
+  pub rules : first_broken whole_rules T ≡ None
 
 -- an accepted list of bytes is the feed of the timetable that was read
 pub accepted : (f : List ℕ) (T : Tables) → Bytes f → read_of f ≡ Accepted T → Told f T

@@ -2,7 +2,7 @@
 use mathlib.Core.Path.{◌≡◌, sym, ap, ◌∙◌}
 use mathlib.Core.Bool.{Bool, not, ◌&&◌, ◌||◌}
 use mathlib.Core.List.{List, [], ◌∷◌, ◌++◌}
-use mathlib.Core.Option.{Option, none, some}
+use Rattle.std.specs.Prelude.{Option, Some, None}
 use Prim.Native.Nat.{ℕ, ◌+◌, ◌*◌, ◌-◌, ◌≤◌, ◌<◌}
 use native.Mathlib.Omega.{arith}
 use lib.ListN.{length, get_or}
@@ -100,17 +100,17 @@ module _ {T U : Tables} (A : Agree T U) where
 
   routes_same : lowest_of T.routes (route_broken T) ≡ lowest_of U.routes (route_broken U)
   unfolding lowest_of
-  routes_same = found_same _ _ A.routes (λ r l i. given (route_broken_same r l i) (some r))
+  routes_same = found_same _ _ A.routes (λ r l i. given (route_broken_same r l i) (Some r))
 
   pub agree_counts : first_broken count_rules T ≡ first_broken count_rules U
   unfolding first_broken
-  agree_counts = λ i. or_else (refused_by 5 (given (heads_same i) (some 64))) (or_else (refused_by 5 (routes_same i)) none)
+  agree_counts = λ i. or_else (refused_by 5 (given (heads_same i) (Some 64))) (or_else (refused_by 5 (routes_same i)) None)
 
   -- ---- stops and walks
 
   stops_same : lowest_of (positions_to T T.routes) (stop_broken T) ≡ lowest_of (positions_to U U.routes) (stop_broken U)
   unfolding lowest_of stop_broken
-  stops_same = found_same _ _ all_positions (λ p l i. given (not (ltb (A.same2.each p l i) (A.stops i))) (some p))
+  stops_same = found_same _ _ all_positions (λ p l i. given (not (ltb (A.same2.each p l i) (A.stops i))) (Some p))
 
   from_same : (w : ℕ) → w < T.walks → walk_from T w ≡ walk_from U w
   from_same w l = A.same5.each (w * 3) (omega arith)
@@ -134,7 +134,7 @@ module _ {T U : Tables} (A : Agree T U) where
 
   walks_same : lowest_of T.walks (walk_broken T) ≡ lowest_of U.walks (walk_broken U)
   unfolding lowest_of
-  walks_same = found_same _ _ A.walks (λ w l i. given (walk_same w l i) (some w))
+  walks_same = found_same _ _ A.walks (λ w l i. given (walk_same w l i) (Some w))
 
   some_same : {k l : ℕ} (p q : ℕ → Bool) → k ≡ l → ((i : ℕ) → i < k → p i ≡ q i) → any_below k p ≡ any_below l q
   some_same {k} p q e h = any_below_same k p q h ∙ ap (λ (n : ℕ). any_below n q) e
@@ -150,7 +150,7 @@ module _ {T U : Tables} (A : Agree T U) where
 
   opens_same : lowest_of T.walks (opens T) ≡ lowest_of U.walks (opens U)
   unfolding lowest_of opens
-  opens_same = found_same _ _ A.walks (λ v l i. given (some_same (gap T v) (gap U v) A.walks (gap_same v l) i) (some v))
+  opens_same = found_same _ _ A.walks (λ v l i. given (some_same (gap T v) (gap U v) A.walks (gap_same v l) i) (Some v))
 
   -- ---- routes
 
@@ -191,14 +191,14 @@ module _ {T U : Tables} (A : Agree T U) where
     time_same =
         found_same _ _ A.routes
         (λ r l i. first_found (m_same r l i) λ j. first_found (n_same r l i) λ k.
-        given (time_broken (agree_route r l i) j k) (some (v_same r l i + (j * n_same r l i + k))))
+        given (time_broken (agree_route r l i) j k) (Some (v_same r l i + (j * n_same r l i + k))))
 
     overtaken_same : lowest_overtaken T ≡ lowest_overtaken U
     unfolding lowest_overtaken event_of
     overtaken_same =
         found_same _ _ A.routes
         (λ r l i. first_found (m_same r l i - 1) λ j. first_found (n_same r l i) λ k.
-        given (overtakes (agree_route r l i) j k) (some (v_same r l i + ((j + 1) * n_same r l i + k))))
+        given (overtakes (agree_route r l i) j k) (Some (v_same r l i + ((j + 1) * n_same r l i + k))))
 
     pub agree_whole : first_broken whole_rules T ≡ first_broken whole_rules U
     unfolding first_broken
@@ -207,7 +207,7 @@ module _ {T U : Tables} (A : Agree T U) where
         (or_else (refused_by 8 (time_same i))
         (or_else (refused_by 9 (overtaken_same i))
         (or_else (refused_by 10 (walks_same i))
-        (or_else (refused_by 11 (opens_same i)) none))))
+        (or_else (refused_by 11 (opens_same i)) None))))
 
     pub agree_fault : fault_of T ≡ fault_of U
     unfolding fault_of

@@ -2,7 +2,7 @@
 use mathlib.Core.Path.{◌≡◌, refl, ap, ◌∙◌}
 use mathlib.Core.Bool.{Bool, true, false, cond, ◌&&◌}
 use mathlib.Core.List.{List, [], ◌∷◌, ◌++◌}
-use mathlib.Core.Option.{none}
+use Rattle.std.specs.Prelude.{None}
 use Prim.Native.Nat.{ℕ, suc, ◌+◌, ◌*◌, ◌≤◌, ◌<◌}
 use native.Mathlib.Omega.{arith}
 use lib.Dec.{leb}
@@ -96,7 +96,7 @@ question_good T q a b c d = rw (lt-ltb q.start T.stops a, lt-ltb q.target T.stop
 
 -- tables of their full sizes are not too short
 pub long_enough : (T : Tables) (labels legs : List ℕ) (q : Question) → Ready T labels legs q →
-    short_table (lengths_of T ++ (length labels ∷ length legs ∷ [])) ≡ none
+    short_table (lengths_of T ++ (length labels ∷ length legs ∷ [])) ≡ None
 unfolding short_table first_found or_else given refused_by
 long_enough T labels legs q r =
     rw (
@@ -110,7 +110,7 @@ long_enough T labels legs q r =
     )
 
 -- a question with no reason from 6, 5 and 7 to 12 is searched
-pub ready_asked : (T : Tables) (labels legs : List ℕ) (q : Question) → Ready T labels legs q → fault_of T ≡ none →
+pub ready_asked : (T : Tables) (labels legs : List ℕ) (q : Question) → Ready T labels legs q → fault_of T ≡ None →
     ask_of T (length labels) (length legs) q ≡ searched T q
 unfolding ask_of or_else given
 ready_asked T labels legs q r f = rw (long_enough T labels legs q r, f, question_good T q r.start< r.target< r.time< r.limit≤)

@@ -11,12 +11,13 @@ use lib.Seq.{ext_get_or}
 use Rattle.laws.specs.Below.{mark}
 use Rattle.laws.specs.Lists.{part, over}
 use Rattle.laws.proofs.Lists.{get_d_part, length-part_of, get_d_over, length_over}
+use Rattle.paper.specs.Rules.{refusal}
 use Rattle.paper.specs.Timetable.{Tables}
 use Rattle.paper.specs.Journey.{Journey}
 use Rattle.paper.specs.Rows.{label, row_of, Earliest}
 use Rattle.paper.specs.Work.{work_of}
 use Rattle.paper.specs.Tie.{is_entry, entry_of, entries_of, legs_of}
-use Rattle.paper.specs.Reply.{zero_entry, in_nine, answered, refused, refusal, labels_table, legs_table, leg_numbers}
+use Rattle.paper.specs.Reply.{zero_entry, in_nine, answered, refused, labels_table, legs_table, leg_numbers}
 use Rattle.paper.specs.Demands.{Best, LegsRun, Demand2}
 use Rattle.paper.specs.declared.Question.{Question}
 use Rattle.paper.specs.declared.Entry.{Entry}

@@ -2,7 +2,7 @@
 use mathlib.Core.Path.{◌≡◌, refl, ap, ◌∙◌, fun_ext}
 use mathlib.Core.Bool.{cond, not}
 use mathlib.Core.List.{List, [], ◌∷◌, ◌++◌}
-use mathlib.Core.Option.{none, some}
+use Rattle.std.specs.Prelude.{None, Some}
 use Prim.Native.Nat.{ℕ, zero, suc, min}
 use lib.Dec.{leb, ltb}
 use Rattle.laws.specs.Below.{mark, min_below, first_below, sum_below}
@@ -19,7 +19,7 @@ use Rattle.paper.specs.declared.Leg.{Leg}
 
 -- a step of `legs_of`, over the two rows and the legs before
 unfoldable step_back : Tables → ℕ → List ℕ → List ℕ → (ℕ → List Leg) → List Leg
-step_back T p row next before = elim (first_step T row p (label next p)) [ none ↦ [] | some g ↦ before (board_stop T g) ++ (g ∷ []) ]
+step_back T p row next before = elim (first_step T row p (label next p)) [ None ↦ [] | Some g ↦ before (board_stop T g) ++ (g ∷ []) ]
 
 module _ (T : Tables) (q : Question) (b : ℕ) where
   row_same : (k : ℕ) → row_of T (with_budget q b) k ≡ row_of T q k

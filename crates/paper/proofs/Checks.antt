@@ -1,7 +1,7 @@
 -- The rules that compute and 01's words are one: nothing is refused exactly where the tables are sound.
 use mathlib.Core.Path.{◌≡◌, refl, ◌∙◌}
 use mathlib.Core.Bool.{false}
-use mathlib.Core.Option.{Option, none, some}
+use Rattle.std.specs.Prelude.{Option, Some, None}
 use Prim.Native.Nat.{ℕ, zero, suc, ◌+◌, ◌*◌, ◌-◌, ◌≤◌, ◌<◌}
 use native.Mathlib.Nat.{le_refl}
 use native.Mathlib.Omega.{arith}
@@ -18,45 +18,45 @@ use Rattle.paper.proofs.Places.{heads_right, heads_whole, RouteRight, route_righ
 -- "5 (head counts, then routes upwards)" refuses nothing
 pub record CountsUnbroken (T : Tables) : Type 0 where
   pub heads : heads_broken T ≡ false
-  pub routes : lowest_of T.routes (route_broken T) ≡ none
+  pub routes : lowest_of T.routes (route_broken T) ≡ None
 
 -- 7 to 11 refuse nothing
 pub record WholeUnbroken (T : Tables) : Type 0 where
-  pub stops : lowest_of (positions_to T T.routes) (stop_broken T) ≡ none
-  pub times : lowest_time T ≡ none
-  pub overtaken : lowest_overtaken T ≡ none
-  pub walks : lowest_of T.walks (walk_broken T) ≡ none
-  pub opened : lowest_of T.walks (opens T) ≡ none
+  pub stops : lowest_of (positions_to T T.routes) (stop_broken T) ≡ None
+  pub times : lowest_time T ≡ None
+  pub overtaken : lowest_overtaken T ≡ None
+  pub walks : lowest_of T.walks (walk_broken T) ≡ None
+  pub opened : lowest_of T.walks (opens T) ≡ None
 
-pub refused_none : (number : ℕ) (x : Option ℕ) → refused_by number x ≡ none → x ≡ none
+pub refused_none : (number : ℕ) (x : Option ℕ) → refused_by number x ≡ None → x ≡ None
 unfolding refused_by
-refused_none number none e = refl
-refused_none number (some place) e = absurd (some_none refl e)
+refused_none number None e = refl
+refused_none number (Some place) e = absurd (some_none refl e)
 
-none_refused : (number : ℕ) {x : Option ℕ} → x ≡ none → refused_by number x ≡ none
+none_refused : (number : ℕ) {x : Option ℕ} → x ≡ None → refused_by number x ≡ None
 unfolding refused_by
 none_refused number e = rw e
 
 -- one rule more refuses nothing
-both_none : (number : ℕ) {x : Option ℕ} {y : Option Refusal} → x ≡ none → y ≡ none → or_else (refused_by number x) y ≡ none
+both_none : (number : ℕ) {x : Option ℕ} {y : Option Refusal} → x ≡ None → y ≡ None → or_else (refused_by number x) y ≡ None
 both_none number {x} {y} e h = or_else_none y (none_refused number e) ∙ h
 
 module _ (T : Tables) where
-  pub counts_unbroken : first_broken count_rules T ≡ none → CountsUnbroken T
+  pub counts_unbroken : first_broken count_rules T ≡ None → CountsUnbroken T
   unfolding first_broken
   counts_unbroken e =
-      let a = or_else_nothing (refused_by 5 (given (heads_broken T) (some 64))) _ e in
+      let a = or_else_nothing (refused_by 5 (given (heads_broken T) (Some 64))) _ e in
       let b = or_else_nothing (refused_by 5 (lowest_of T.routes (route_broken T))) _ a.1 in
       record {
         heads = given_nothing (heads_broken T) 64 (refused_none 5 _ a.0);
         routes = refused_none 5 _ b.0;
       }
 
-  pub counts_none : CountsUnbroken T → first_broken count_rules T ≡ none
+  pub counts_none : CountsUnbroken T → first_broken count_rules T ≡ None
   unfolding first_broken
-  counts_none h = both_none 5 (given_false (some 64) h.heads) (both_none 5 h.routes refl)
+  counts_none h = both_none 5 (given_false (Some 64) h.heads) (both_none 5 h.routes refl)
 
-  pub whole_unbroken : first_broken whole_rules T ≡ none → WholeUnbroken T
+  pub whole_unbroken : first_broken whole_rules T ≡ None → WholeUnbroken T
   unfolding first_broken
   whole_unbroken e =
       let a = or_else_nothing (refused_by 7 (lowest_of (positions_to T T.routes) (stop_broken T))) _ e in
@@ -72,7 +72,7 @@ module _ (T : Tables) where
         opened = refused_none 11 _ g.0;
       }
 
-  pub unbroken_whole : WholeUnbroken T → first_broken whole_rules T ≡ none
+  pub unbroken_whole : WholeUnbroken T → first_broken whole_rules T ≡ None
   unfolding first_broken
   unbroken_whole h = both_none 7 h.stops (both_none 8 h.times (both_none 9 h.overtaken (both_none 10 h.walks (both_none 11 h.opened refl))))
 
@@ -97,22 +97,22 @@ module _ (T : Tables) where
   pub counts_events : CountsUnbroken T → events_to T T.routes ≤ 2048
   counts_events h = events_most T.routes (λ r l. (routes_right h r l).counts.events≤)
 
-  time_never : lowest_time T ≡ none → (r j i : ℕ) → r < T.routes → j < m_of T r → i < n_of T r → time_broken (route_of T r) j i ≡ false
+  time_never : lowest_time T ≡ None → (r j i : ℕ) → r < T.routes → j < m_of T r → i < n_of T r → time_broken (route_of T r) j i ≡ false
   unfolding lowest_time
   time_never e r j i l m n =
       given_nothing (time_broken (route_of T r) j i) (event_of T r j i)
       (first_found_never (n_of T r) _ (first_found_never (m_of T r) _ (first_found_never T.routes _ e r l) j m) i n)
 
-  overtaken_never : lowest_overtaken T ≡ none → (r j i : ℕ) → r < T.routes → j < m_of T r - 1 → i < n_of T r → overtakes (route_of T r) j i ≡ false
+  overtaken_never : lowest_overtaken T ≡ None → (r j i : ℕ) → r < T.routes → j < m_of T r - 1 → i < n_of T r → overtakes (route_of T r) j i ≡ false
   unfolding lowest_overtaken
   overtaken_never e r j i l m n =
       given_nothing (overtakes (route_of T r) j i) (event_of T r (j + 1) i)
       (first_found_never (n_of T r) _ (first_found_never (m_of T r - 1) _ (first_found_never T.routes _ e r l) j m) i n)
 
-  pub walks_right : lowest_of T.walks (walk_broken T) ≡ none → (w : ℕ) → w < T.walks → walk_broken T w ≡ false
+  pub walks_right : lowest_of T.walks (walk_broken T) ≡ None → (w : ℕ) → w < T.walks → walk_broken T w ≡ false
   walks_right e = lowest_passed T.walks (walk_broken T) e
 
-  pub walks_rising : lowest_of T.walks (walk_broken T) ≡ none → (w : ℕ) → w + 1 < T.walks → Rising T w (w + 1)
+  pub walks_rising : lowest_of T.walks (walk_broken T) ≡ None → (w : ℕ) → w + 1 < T.walks → Rising T w (w + 1)
   walks_rising e w l =
       let z : w + 1 - 1 ≡ w = omega arith in
       rw z at ((walk_right T (w + 1) (walks_right e (w + 1) l)).1 (omega arith))
@@ -144,7 +144,7 @@ module _ (T : Tables) where
         closed = λ v w l m. open_right T v (lowest_passed _ (opens T) y.opened v l) w m;
       }
 
-  pub sound_of : fault_of T ≡ none → Sound T
+  pub sound_of : fault_of T ≡ None → Sound T
   unfolding fault_of
   sound_of e =
       let a = or_else_nothing (first_broken count_rules T) (first_broken whole_rules T) e in
@@ -176,17 +176,17 @@ module _ (T : Tables) where
         routes = lowest_none T.routes (route_broken T) (λ r l. route_whole T r (route_of_lem c r l));
       }
 
-  times_none : Sound T → lowest_time T ≡ none
+  times_none : Sound T → lowest_time T ≡ None
   unfolding lowest_time
   times_none s =
       first_found_none T.routes _ (λ r l. first_found_none (m_of T r) _ (λ j m. first_found_none (n_of T r) _ (λ i n.
-      given_false (some (event_of T r j i)) (time_whole (route_of T r) j i (s.times r j i l m n)))))
+      given_false (Some (event_of T r j i)) (time_whole (route_of T r) j i (s.times r j i l m n)))))
 
-  overtaken_none : Sound T → lowest_overtaken T ≡ none
+  overtaken_none : Sound T → lowest_overtaken T ≡ None
   unfolding lowest_overtaken
   overtaken_none s =
       first_found_none T.routes _ (λ r l. first_found_none (m_of T r - 1) _ (λ j m. first_found_none (n_of T r) _ (λ i n.
-      given_false (some (event_of T r (j + 1) i)) (order_whole (route_of T r) j i (s.no_overtaking r j i l (omega arith) n)))))
+      given_false (Some (event_of T r (j + 1) i)) (order_whole (route_of T r) j i (s.no_overtaking r j i l (omega arith) n)))))
 
   rising_to : Sound T → (w : ℕ) → w < T.walks → 0 < w → Rising T (w - 1) w
   rising_to s w l z =
@@ -203,9 +203,9 @@ module _ (T : Tables) where
         opened = lowest_none _ (opens T) (λ v l. open_whole T v (λ w m. s.closed v w l m));
       }
 
-  pub whole_none : Sound T → first_broken whole_rules T ≡ none
+  pub whole_none : Sound T → first_broken whole_rules T ≡ None
   whole_none s = unbroken_whole (whole_of_lem s)
 
-  pub none_of : Sound T → fault_of T ≡ none
+  pub none_of : Sound T → fault_of T ≡ None
   unfolding fault_of
   none_of s = or_else_none (first_broken whole_rules T) (counts_none (counts_of (sound_counts s))) ∙ whole_none s

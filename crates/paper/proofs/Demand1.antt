@@ -3,7 +3,7 @@ use mathlib.Core.Path.{◌≡◌, refl, sym, ◌∙◌}
 use mathlib.Core.Logic.{◌≢◌}
 use mathlib.Core.Bool.{Bool, true, false, cond}
 use mathlib.Core.List.{List, [], ◌∷◌, ◌++◌}
-use mathlib.Core.Option.{Option, none, some}
+use Rattle.std.specs.Prelude.{Option, Some, None, Err}
 use Prim.Native.Nat.{ℕ, ◌≤◌}
 use native.Mathlib.Nat.{le_of_eq}
 use native.Mathlib.Omega.{arith}
@@ -12,13 +12,13 @@ use lib.ListN.{length, drop, replicate, length-replicate}
 use Rattle.laws.specs.Below.{mark, or_else, given}
 use Rattle.laws.proofs.Lists.{drop-over}
 use Rattle.paper.specs.Timetable.{Tables}
-use Rattle.paper.specs.Rules.{Refusal, fault_of}
+use Rattle.paper.specs.Rules.{Refusal, refusal, fault_of}
 use Rattle.paper.specs.Work.{work_of, passing_round}
 use Rattle.paper.specs.Tie.{entries_of}
-use Rattle.paper.specs.Reply.{Asking, Kept, Marked, Labelled, Answered, refusal, labels_table, legs_table, ask_unless, ask_of, searched, short_table, lengths_of, question_broken, answer_as, labels_after, legs_after, reply_of}
+use Rattle.paper.specs.Reply.{Asking, Kept, Marked, Labelled, Answered, labels_table, legs_table, ask_unless, ask_of, searched, short_table, lengths_of, question_broken, answer_as, labels_after, legs_after, reply_of}
 use Rattle.paper.specs.Demands.{Demand1}
 use Rattle.paper.specs.declared.Question.{Question}
-use Rattle.paper.specs.declared.Verdict.{Verdict}
+use Rattle.paper.proofs.Refusals.{refused_number}
 use Rattle.paper.proofs.Answers.{length_labels, length_legs}
 
 -- a refusal that leaves the tables all mark is 13, one that leaves the labels right is 14
@@ -38,14 +38,11 @@ searched_right T q = go (ltb q.budget (work_of T q)) (eqb (length (entries_of T 
     go false false = tt
 
 unless_right : (T : Tables) (q : Question) (x : Option Refusal) → Right (ask_unless x T q)
-unless_right T q none = searched_right T q
-unless_right T q (some x) = unfold Right in tt
+unless_right T q None = searched_right T q
+unless_right T q (Some x) = unfold Right in tt
 
 module _ (T : Tables) (q : Question) (labels legs : List ℕ) where
-  refused_number : {m p n r : ℕ} → ◌≡◌ {A = Verdict} (Verdict.Refused m p) (Verdict.Refused n r) → m ≡ n
-  refused_number e = cc
-
-  kept_by : (a : Asking) → Right a → (n p : ℕ) → (answer_as T q a).verdict ≡ Verdict.Refused n p → n ≢ 13 → n ≢ 14 →
+  kept_by : (a : Asking) → Right a → (n p : ℕ) → (answer_as T q a).verdict ≡ Err (refusal n p) → n ≢ 13 → n ≢ 14 →
       (labels_after T q a labels ≡ labels) × (legs_after T q a legs ≡ legs)
   unfolding Right answer_as labels_after legs_after
   kept_by (Kept x) h n p e a b = (refl, refl)
@@ -70,7 +67,7 @@ module _ (T : Tables) (q : Question) (labels legs : List ℕ) where
   asked_right : (n m : ℕ) → Right (ask_of T n m q)
   unfolding ask_of
   asked_right n m =
-      unless_right T q (or_else (short_table (lengths_of T ++ (n ∷ m ∷ []))) (or_else (fault_of T) (given (question_broken T q) (some (refusal 12 0)))))
+      unless_right T q (or_else (short_table (lengths_of T ++ (n ∷ m ∷ []))) (or_else (fault_of T) (given (question_broken T q) (Some (refusal 12 0)))))
 
   pub demand1 : Demand1 labels legs (reply_of T labels legs q)
   unfolding reply_of

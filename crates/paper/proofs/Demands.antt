@@ -1,4 +1,5 @@
 -- Demands 2 and 3 hold of `reply_of`, for every question that is not refused by 6, 5, 7 to 12.
+use Rattle.std.specs.Prelude.{Ok, Err}
 use mathlib.Core.Path.{◌≡◌, sym, ap, ◌∙◌}
 use mathlib.Core.Logic.{◌⊎◌, inl, inr}
 use mathlib.Core.List.{List}
@@ -8,13 +9,14 @@ use native.Mathlib.Omega.{arith}
 use lib.ListN.{length}
 use borrow.Author.Tests.{lt-ltb, le-ltb, eq-eqb, ne_eqb}
 use Rattle.laws.proofs.Tests.{by_lt}
+use Rattle.paper.specs.Rules.{refusal}
 use Rattle.paper.specs.Timetable.{Tables}
 use Rattle.paper.specs.Work.{work_of, passing_round}
 use Rattle.paper.specs.Tie.{entries_of}
-use Rattle.paper.specs.Reply.{Reply, Asking, Marked, Labelled, Answered, refusal, searched, answer_as, labels_after, legs_after, reply_of}
+use Rattle.paper.specs.Reply.{Reply, Asking, Marked, Labelled, Answered, searched, answer_as, labels_after, legs_after, reply_of}
 use Rattle.paper.specs.Demands.{Ready, Demand2, with_budget, Demand3}
 use Rattle.paper.specs.declared.Question.{Question}
-use Rattle.paper.specs.declared.Verdict.{Verdict}
+use Rattle.paper.proofs.Refusals.{refused_number}
 use Rattle.paper.proofs.Checks.{none_of}
 use Rattle.paper.proofs.Usable.{Asked, usable_of}
 use Rattle.paper.proofs.WorkLimit.{work_limit}
@@ -59,35 +61,35 @@ module _ (T : Tables) (labels legs : List ℕ) (q : Question) (r : Ready T label
   -- ---- demand 3
 
   -- a reply, by what the search says: 13, 14 or an answer
-  verdict_marked : q.budget < work_of T q → (reply_of T labels legs q).answer.verdict ≡ Verdict.Refused 13 (passing_round T q)
+  verdict_marked : q.budget < work_of T q → (reply_of T labels legs q).answer.verdict ≡ Err (refusal 13 (passing_round T q))
   unfolding answer_as
   verdict_marked h = ap (λ (x : Reply). x.answer.verdict) (reply_is (over_budget h))
 
   verdict_within : work_of T q ≤ q.budget →
-      ((reply_of T labels legs q).answer.verdict ≡ Verdict.Refused 14 (work_of T q)) ⊎ ((reply_of T labels legs q).answer.verdict ≡ Verdict.Answered (work_of T q))
+      ((reply_of T labels legs q).answer.verdict ≡ Err (refusal 14 (work_of T q))) ⊎ ((reply_of T labels legs q).answer.verdict ≡ Ok (work_of T q))
   unfolding answer_as
   verdict_within h = go (ℕ_discrete (length (entries_of T q)) 0)
     where
       go : Dec (length (entries_of T q) ≡ 0) →
-          ((reply_of T labels legs q).answer.verdict ≡ Verdict.Refused 14 (work_of T q)) ⊎ ((reply_of T labels legs q).answer.verdict ≡ Verdict.Answered (work_of T q))
+          ((reply_of T labels legs q).answer.verdict ≡ Err (refusal 14 (work_of T q))) ⊎ ((reply_of T labels legs q).answer.verdict ≡ Ok (work_of T q))
       go (yes e) = inl (ap (λ (x : Reply). x.answer.verdict) (reply_is (no_entries h e)))
       go (no e) = inr (ap (λ (x : Reply). x.answer.verdict) (reply_is (some_entries h e)))
 
-  work_right : (w : ℕ) → (reply_of T labels legs q).answer.verdict ≡ Verdict.Answered w → w ≡ work_of T q
+  work_right : (w : ℕ) → (reply_of T labels legs q).answer.verdict ≡ Ok w → w ≡ work_of T q
   work_right w e =
       by_lt q.budget (work_of T q)
       (λ h. let m = verdict_marked h in let z : ◌≡◌ {A = ℕ} 0 1 = cc in absurd (omega arith))
       (λ h. go (verdict_within h))
     where
-      go : ((reply_of T labels legs q).answer.verdict ≡ Verdict.Refused 14 (work_of T q)) ⊎ ((reply_of T labels legs q).answer.verdict ≡ Verdict.Answered (work_of T q)) → w ≡ work_of T q
+      go : ((reply_of T labels legs q).answer.verdict ≡ Err (refusal 14 (work_of T q))) ⊎ ((reply_of T labels legs q).answer.verdict ≡ Ok (work_of T q)) → w ≡ work_of T q
       go (inl x) = let z : ◌≡◌ {A = ℕ} 0 1 = cc in absurd (omega arith)
       go (inr x) = cc
 
-  budget_passed : (reply_of T labels legs q).answer.verdict ≡ Verdict.Refused 13 (passing_round T q) → q.budget < work_of T q
+  budget_passed : (reply_of T labels legs q).answer.verdict ≡ Err (refusal 13 (passing_round T q)) → q.budget < work_of T q
   budget_passed e = by_lt q.budget (work_of T q) (λ h. h) (λ h. go (verdict_within h))
     where
-      go : ((reply_of T labels legs q).answer.verdict ≡ Verdict.Refused 14 (work_of T q)) ⊎ ((reply_of T labels legs q).answer.verdict ≡ Verdict.Answered (work_of T q)) → q.budget < work_of T q
-      go (inl x) = let z : ◌≡◌ {A = ℕ} 13 14 = cc in absurd (omega arith)
+      go : ((reply_of T labels legs q).answer.verdict ≡ Err (refusal 14 (work_of T q))) ⊎ ((reply_of T labels legs q).answer.verdict ≡ Ok (work_of T q)) → q.budget < work_of T q
+      go (inl x) = absurd (let z : ◌≡◌ {A = ℕ} 13 14 = refused_number (sym e ∙ x) in omega arith)
       go (inr x) = let z : ◌≡◌ {A = ℕ} 0 1 = cc in absurd (omega arith)
 
 -- a larger budget changes no answer given

@@ -3,7 +3,7 @@ use mathlib.Core.Path.{◌≡◌, refl, sym, ap, ap₂, ◌∙◌, subst}
 use mathlib.Core.Logic.{◌≢◌}
 use mathlib.Core.Bool.{Bool, true, ◌&&◌}
 use mathlib.Core.List.{List, [], ◌∷◌}
-use mathlib.Core.Option.{Option, none, some}
+use Rattle.std.specs.Prelude.{Option, Some, None}
 use Prim.Native.Nat.{ℕ, ◌+◌, ◌≤◌, ◌<◌}
 use native.Mathlib.Nat.{le_trans, le_of_eq, suc-ne-zero}
 use lib.ListN.{get_or}
@@ -19,8 +19,6 @@ use Rattle.paper.specs.Rows.{label, boards}
 use Rattle.paper.specs.Journey.{Ride, Walk, Step, ride, ride_walk}
 use Rattle.paper.specs.Tie.{First, boarded_first, left_first, trip_first, route_first, walk_between, walked_first, first_step, board_stop, leg_of, key_of, NotAfter, equal, sooner, further}
 use Rattle.paper.specs.declared.Leg.{Leg}
-use Rattle.paper.specs.declared.After.{After}
-use Rattle.paper.specs.declared.After.TheVariants.{Stays, WalksTo}
 use Rattle.paper.proofs.Usable.{Usable}
 use Rattle.paper.proofs.Rides.{boards_of, boards_is}
 use Rattle.paper.proofs.Steps.{ride_to_lem, Stepped}
@@ -29,7 +27,7 @@ not_after : {x y : ℕ} {xs ys : List ℕ} → x ≤ y → (x ≡ y → NotAfter
 not_after {x} {y} l h = by_lt x y (λ m. sooner m) (λ m. let e : x ≡ y = omega arith in further e (h e))
 
 -- nothing is found before the first place
-not_before_lem : {A : Type 0} {k : ℕ} {f : ℕ → Option A} {a : A} (x : FirstAt k f a) (i : ℕ) → (f i ≡ none → ⊥) → x.at ≤ i
+not_before_lem : {A : Type 0} {k : ℕ} {f : ℕ → Option A} {a : A} (x : FirstAt k f a) (i : ℕ) → (f i ≡ None → ⊥) → x.at ≤ i
 not_before_lem x i h = by_lt i x.at (λ l. absurd (h (x.none_before i l))) (λ l. l)
 
 -- a ride of trip j of route r from position i to l, boarded where the row permits it, comes to stop s so that c seconds later it is v
@@ -58,27 +56,27 @@ fits_of {T} {row} {b} {s} {t} x c v m e =
       boarded = boards_of R row x.trip x.board (λ z. m (sym at ∙ z)) (le_trans (le_of_eq at) x.catches);
     }
 
-module _ (T : Tables) (row : List ℕ) (s c v : ℕ) (after : After) where
+module _ (T : Tables) (row : List ℕ) (s c v : ℕ) (after : Option ℕ) where
   -- such a ride shows at each level of the search
   module _ {r j l i : ℕ} (h : Fits T row s c v r j l i) where
-    board_shows : (g : Leg) → given (boards (route_of T r) row j i) (some g) ≡ none → ⊥
-    board_shows g e = some_none refl (sym (given_true (some g) h.boarded) ∙ e)
+    board_shows : (g : Leg) → given (boards (route_of T r) row j i) (Some g) ≡ None → ⊥
+    board_shows g e = some_none refl (sym (given_true (Some g) h.boarded) ∙ e)
 
-    leave_shows : given (eqb (stop_at (route_of T r) l) s && eqb (arrive_at (route_of T r) j l + c) v) (boarded_first T row s c v after r j l) ≡ none → ⊥
+    leave_shows : given (eqb (stop_at (route_of T r) l) s && eqb (arrive_at (route_of T r) j l + c) v) (boarded_first T row s c v after r j l) ≡ None → ⊥
     unfolding boarded_first
     leave_shows e =
         let t = and_true _ _ (eq-eqb (stop_at (route_of T r) l) s h.to) (eq-eqb (arrive_at (route_of T r) j l + c) v h.right) in
         board_shows _ (first_found_never l _ (sym (given_true _ t) ∙ e) i h.later)
 
-    trip_shows : left_first T row s c v after r j ≡ none → ⊥
+    trip_shows : left_first T row s c v after r j ≡ None → ⊥
     unfolding left_first
     trip_shows e = leave_shows (first_found_never (route_of T r).n _ e l h.leave<)
 
-    route_shows : trip_first T row s c v after r ≡ none → ⊥
+    route_shows : trip_first T row s c v after r ≡ None → ⊥
     unfolding trip_first
     route_shows e = trip_shows (first_found_never (route_of T r).m _ e j h.trip<)
 
-    shows : route_first T row s c v after ≡ none → ⊥
+    shows : route_first T row s c v after ≡ None → ⊥
     unfolding route_first
     shows e = route_shows (first_found_never T.routes _ e r h.route<)
 
@@ -88,7 +86,7 @@ module _ (T : Tables) (row : List ℕ) (s c v : ℕ) (after : After) where
     after≡ : g.after ≡ after
     first : {r j l i : ℕ} → Fits T row s c v r j l i → NotAfter (g.route ∷ g.trip ∷ g.leave ∷ g.board ∷ []) (r ∷ j ∷ l ∷ i ∷ [])
 
-  found : (g : Leg) → route_first T row s c v after ≡ some g → Found g
+  found : (g : Leg) → route_first T row s c v after ≡ Some g → Found g
   unfolding route_first trip_first left_first boarded_first
   found g e =
       let fr = first_found_hit T.routes _ g e in
@@ -125,7 +123,7 @@ module _ (T : Tables) (row : List ℕ) (s c v : ℕ) (after : After) where
       subst Found (some_same pi.1) at
 
 -- the ride that was found
-ride_of : {T : Tables} {row : List ℕ} {s c v : ℕ} {after : After} {g : Leg} → Found T row s c v after g → (t : ℕ) →
+ride_of : {T : Tables} {row : List ℕ} {s c v : ℕ} {after : Option ℕ} {g : Leg} → Found T row s c v after g → (t : ℕ) →
     arrive_at (route_of T g.route) g.trip g.leave ≡ t → Ride T (board_stop T g) (label row (board_stop T g)) s t
 unfolding board_stop
 ride_of {T} {row} {g} f t e = record {
@@ -143,7 +141,7 @@ ride_of {T} {row} {g} f t e = record {
   arrives = e;
 }
 
-found_reached : {T : Tables} {row : List ℕ} {s c v : ℕ} {after : After} {g : Leg} → Found T row s c v after g → label row (board_stop T g) ≢ mark
+found_reached : {T : Tables} {row : List ℕ} {s c v : ℕ} {after : Option ℕ} {g : Leg} → Found T row s c v after g → label row (board_stop T g) ≢ mark
 unfolding board_stop
 found_reached {T} {row} {g} f = (boards_is (route_of T g.route) row g.trip g.board f.fits.boarded).0
 
@@ -174,22 +172,22 @@ walk_between_is T us {s} {p} x =
 
 module _ (T : Tables) (us : Usable T) (row : List ℕ) (p v : ℕ) where
   -- where there is a last step, its search finds one
-  ride_shows : {b : ℕ} → label row b ≢ mark → Ride T b (label row b) p v → route_first T row p 0 v Stays ≡ none → ⊥
-  ride_shows m x = shows T row p 0 v Stays (fits_of x 0 v m (omega arith))
+  ride_shows : {b : ℕ} → label row b ≢ mark → Ride T b (label row b) p v → route_first T row p 0 v None ≡ None → ⊥
+  ride_shows m x = shows T row p 0 v None (fits_of x 0 v m (omega arith))
 
   walk_fits : {b s t : ℕ} → label row b ≢ mark → (x : Ride T b (label row b) s t) → Walk T s t p v →
       Fits T row s (walk_seconds T (walk_between T s p)) v x.route x.trip x.leave x.board
   walk_fits {t} m x w = fits_of x _ v m (ap (λ (n : ℕ). t + walk_seconds T n) (walk_between_is T us w) ∙ w.arrives)
 
-  walk_shows : {b s t : ℕ} → label row b ≢ mark → Ride T b (label row b) s t → Walk T s t p v → walked_first T row p v s ≡ none → ⊥
+  walk_shows : {b s t : ℕ} → label row b ≢ mark → Ride T b (label row b) s t → Walk T s t p v → walked_first T row p v s ≡ None → ⊥
   unfolding walked_first
   walk_shows {s} m x w e =
       let l = walk_between_is T us w in
       let k = w.walk< in
-      shows T row s _ v (WalksTo p) (walk_fits m x w) (sym (given_true _ (lt-ltb (walk_between T s p) T.walks (omega arith))) ∙ e)
+      shows T row s _ v (Some p) (walk_fits m x w) (sym (given_true _ (lt-ltb (walk_between T s p) T.walks (omega arith))) ∙ e)
 
   -- the first ride to p
-  by_ride : (g : Leg) → Found T row p 0 v Stays g → First T row p v g
+  by_ride : (g : Leg) → Found T row p 0 v None g → First T row p v g
   unfolding leg_of key_of
   by_ride g f = record { reached = found_reached f; the_step = the_step; leg≡ = same; before_all = first }
     where
@@ -204,8 +202,8 @@ module _ (T : Tables) (us : Usable T) (row : List ℕ) (p v : ℕ) where
       first b m (ride_walk y w) = sooner (lit< {m = 0} {n = 1} tt)
 
   -- the first ride and walk, where no ride alone will do
-  by_walk : (g : Leg) → route_first T row p 0 v Stays ≡ none → (x : FirstAt T.stops (walked_first T row p v) g) → walk_between T x.at p < T.walks →
-      Found T row x.at (walk_seconds T (walk_between T x.at p)) v (WalksTo p) g → First T row p v g
+  by_walk : (g : Leg) → route_first T row p 0 v None ≡ None → (x : FirstAt T.stops (walked_first T row p v) g) → walk_between T x.at p < T.walks →
+      Found T row x.at (walk_seconds T (walk_between T x.at p)) v (Some p) g → First T row p v g
   unfolding leg_of key_of
   by_walk g no-ride x w< f = record { reached = found_reached f; the_step = the_step; leg≡ = same; before_all = first }
     where
@@ -236,35 +234,35 @@ module _ (T : Tables) (us : Usable T) (row : List ℕ) (p v : ℕ) where
           f.first (subst (λ (n : ℕ). Fits T row n (walk_seconds T (walk_between T n p)) v y.route y.trip y.leave y.board) (sym e) (walk_fits m y z))))
 
   -- what first_step finds is the tie rule's step
-  pub first_of_lem : (g : Leg) → first_step T row p v ≡ some g → First T row p v g
+  pub first_of_lem : (g : Leg) → first_step T row p v ≡ Some g → First T row p v g
   unfolding first_step walked_first
-  first_of_lem g e = go (route_first T row p 0 v Stays) refl
+  first_of_lem g e = go (route_first T row p 0 v None) refl
     where
-      go : (o : Option Leg) → route_first T row p 0 v Stays ≡ o → First T row p v g
-      go (some k) h = by_ride g (found T row p 0 v Stays g (h ∙ (sym (or_else_some _ h) ∙ e)))
-      go none h =
+      go : (o : Option Leg) → route_first T row p 0 v None ≡ o → First T row p v g
+      go (Some k) h = by_ride g (found T row p 0 v None g (h ∙ (sym (or_else_some _ h) ∙ e)))
+      go None h =
           let x = first_found_hit T.stops (walked_first T row p v) g (sym (or_else_none _ h) ∙ e) in
           let y = given_some _ _ x.is in
-          by_walk g h x (ltb-true _ _ y.0) (found T row x.at _ v (WalksTo p) g y.1)
+          by_walk g h x (ltb-true _ _ y.0) (found T row x.at _ v (Some p) g y.1)
 
   -- where it finds nothing there is no last step
-  pub none_first : first_step T row p v ≡ none → Stepped T row p v → ⊥
+  pub none_first : first_step T row p v ≡ None → Stepped T row p v → ⊥
   unfolding first_step
-  none_first e x = go (route_first T row p 0 v Stays) refl x.step
+  none_first e x = go (route_first T row p 0 v None) refl x.step
     where
-      go : (o : Option Leg) → route_first T row p 0 v Stays ≡ o → Step T x.b (label row x.b) p v → ⊥
-      go (some k) h y = some_none (or_else_some _ h) e
-      go none h (ride y) = ride_shows x.reached y h
-      go none h (ride_walk {s} y z) =
+      go : (o : Option Leg) → route_first T row p 0 v None ≡ o → Step T x.b (label row x.b) p v → ⊥
+      go (Some k) h y = some_none (or_else_some _ h) e
+      go None h (ride y) = ride_shows x.reached y h
+      go None h (ride_walk {s} y z) =
           walk_shows x.reached y z (first_found_never T.stops (walked_first T row p v) (sym (or_else_none _ h) ∙ e) s (ride_to_lem T us y))
 
   -- where there is a last step, it finds the first
-  pub first_step_lem : Stepped T row p v → (g : Leg) × (first_step T row p v ≡ some g) × First T row p v g
+  pub first_step_lem : Stepped T row p v → (g : Leg) × (first_step T row p v ≡ Some g) × First T row p v g
   first_step_lem x = go (first_step T row p v) refl
     where
-      go : (o : Option Leg) → first_step T row p v ≡ o → (g : Leg) × (first_step T row p v ≡ some g) × First T row p v g
-      go (some g) e = (g, e, first_of_lem g e)
-      go none e = absurd (none_first e x)
+      go : (o : Option Leg) → first_step T row p v ≡ o → (g : Leg) × (first_step T row p v ≡ Some g) × First T row p v g
+      go (Some g) e = (g, e, first_of_lem g e)
+      go None e = absurd (none_first e x)
 
 -- ---- there is one first last step
 
@@ -285,9 +283,9 @@ not_after_antisym (further {x} {y} {xs} {ys} e h) k = go k (not_after_antisym h)
 -- two last steps at p with one key are one leg
 pub key_leg : {T : Tables} {b a d c p u : ℕ} (x : Step T b a p u) (y : Step T d c p u) → key_of x ≡ key_of y → leg_of x ≡ leg_of y
 unfolding key_of leg_of
-key_leg {p} (ride x) (ride y) e = λ i. record { route = get_or (e i) 2 0; trip = get_or (e i) 3 0; board = get_or (e i) 5 0; leave = get_or (e i) 4 0; after = Stays }
+key_leg {p} (ride x) (ride y) e = λ i. record { route = get_or (e i) 2 0; trip = get_or (e i) 3 0; board = get_or (e i) 5 0; leave = get_or (e i) 4 0; after = None }
 key_leg {p} (ride_walk x w) (ride_walk y z) e =
-    λ i. record { route = get_or (e i) 2 0; trip = get_or (e i) 3 0; board = get_or (e i) 5 0; leave = get_or (e i) 4 0; after = WalksTo p }
+    λ i. record { route = get_or (e i) 2 0; trip = get_or (e i) 3 0; board = get_or (e i) 5 0; leave = get_or (e i) 4 0; after = Some p }
 key_leg {p} (ride x) (ride_walk y z) e = absurd (suc-ne-zero 0 (sym (ap (λ (l : List ℕ). get_or l 0 0) e)))
 key_leg {p} (ride_walk x w) (ride y) e = absurd (suc-ne-zero 0 (ap (λ (l : List ℕ). get_or l 0 0) e))
 

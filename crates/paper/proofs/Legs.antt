@@ -2,7 +2,7 @@
 use mathlib.Core.Path.{◌≡◌, refl, sym, ap, ap₂, ◌∙◌}
 use mathlib.Core.Logic.{◌≢◌}
 use mathlib.Core.List.{List, [], ◌∷◌, ◌++◌}
-use mathlib.Core.Option.{some}
+use Rattle.std.specs.Prelude.{Some}
 use Prim.Native.Nat.{ℕ, zero, suc, ◌<◌}
 use native.Mathlib.Nat.{suc-ne-zero}
 use native.Mathlib.Omega.{arith}
@@ -30,7 +30,7 @@ journey_length stay = refl
 journey_length (step j x) = rw (length-append, journey_length j) (omega arith)
 
 -- one step back
-pub legs_step : (T : Tables) (q : Question) (k p : ℕ) (g : Leg) → first_step T (row_of T q k) p (label (row_of T q (suc k)) p) ≡ some g →
+pub legs_step : (T : Tables) (q : Question) (k p : ℕ) (g : Leg) → first_step T (row_of T q k) p (label (row_of T q (suc k)) p) ≡ Some g →
     legs_of T q (suc k) p ≡ legs_of T q k (board_stop T g) ++ (g ∷ [])
 unfolding legs_of
 legs_step T q k p g e = rw (e, legs_of)
@@ -48,7 +48,7 @@ module _ (T : Tables) (q : Question) (us : Usable T) (ask : Asked T q) where
 
   -- the tie rule's step, and where it leads
   pub read_back : (k p : ℕ) → Gained T q (suc k) p →
-      (g : Leg) × (first_step T (row_of T q k) p (label (row_of T q (suc k)) p) ≡ some g) × First T (row_of T q k) p (label (row_of T q (suc k)) p) g × Gained T q k (board_stop T g)
+      (g : Leg) × (first_step T (row_of T q k) p (label (row_of T q (suc k)) p) ≡ Some g) × First T (row_of T q k) p (label (row_of T q (suc k)) p) g × Gained T q k (board_stop T g)
   read_back k p h =
       let x = first_step_lem T us (row_of T q k) p (label (row_of T q (suc k)) p) (last_step T q us ask k p h) in
       (x.0, x.1, x.2, back k (board_stop T x.0) p h x.2.reached x.2.the_step)

@@ -2,6 +2,7 @@
 pub mod Opened
 pub mod AllStarred
 pub mod Example
+pub mod Refusals
 pub mod Lowest
 pub mod Places
 pub mod Checks

@@ -2,7 +2,7 @@
 use mathlib.Core.Path.{◌≡◌, refl, sym, ap, ◌∙◌}
 use mathlib.Core.Bool.{Bool, true, false}
 use mathlib.Core.List.{List, [], ◌∷◌, ◌++◌}
-use mathlib.Core.Option.{some}
+use Rattle.std.specs.Prelude.{Some}
 use Prim.Native.Nat.{ℕ, zero, suc, ◌+◌, ◌*◌, ◌-◌, ◌/◌, ◌%◌, ◌≤◌, ◌<◌}
 use native.Mathlib.Omega.{arith}
 use lib.Dec.{eqb, ltb, leb-suc-suc}
@@ -256,7 +256,7 @@ question-length q =
     simp length-append
     (omega (arith, decimal_ten q.start, decimal_ten q.target, decimal_ten q.time, decimal_ten q.limit, decimal_ten q.budget))
 
-pub question_read : (q : Question) → Question32 q → question_of (question_line q) ≡ some q
+pub question_read : (q : Question) → Question32 q → question_of (question_line q) ≡ Some q
 unfolding question_of question_line is_line line_end question_in given every
 question_read q h =
     rw (

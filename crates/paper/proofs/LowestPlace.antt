@@ -2,7 +2,7 @@
 use mathlib.Core.Path.{◌≡◌, refl}
 use mathlib.Core.Logic.{◌⊎◌, inl, inr, ⊎_elim}
 use mathlib.Core.Bool.{Bool, true, false}
-use mathlib.Core.Option.{Option, none, some}
+use Rattle.std.specs.Prelude.{Option, Some, None}
 use Prim.Native.Nat.{ℕ, ◌+◌, ◌*◌, ◌-◌, ◌<◌}
 use native.Mathlib.Omega.{arith}
 use lib.Arith.{digits_lt}
@@ -11,8 +11,7 @@ use Rattle.laws.proofs.Tests.{by_lt, cell_in}
 use Rattle.laws.proofs.Below.{sum_below_at}
 use Rattle.laws.proofs.Found.{some_none, some_same, given_some, first_found_hit, first_found_never}
 use Rattle.paper.specs.Timetable.{Tables, n_of, m_of, positions_to, events_to, route_of}
-use Rattle.paper.specs.Rules.{Refusal, heads_broken, route_broken, stop_broken, time_broken, overtakes, event_of, lowest_of, lowest_time, lowest_overtaken, walk_broken, opens, count_rules, whole_rules, refused_by, first_broken, fault_of}
-use Rattle.paper.specs.Reply.{refusal}
+use Rattle.paper.specs.Rules.{Refusal, refusal, heads_broken, route_broken, stop_broken, time_broken, overtakes, event_of, lowest_of, lowest_time, lowest_overtaken, walk_broken, opens, count_rules, whole_rules, refused_by, first_broken, fault_of}
 use Rattle.paper.proofs.Lowest.{given_nothing, LowestAt, lowest_hit}
 use Rattle.paper.proofs.Checks.{CountsUnbroken, counts_unbroken, routes_right, refused_none}
 
@@ -38,19 +37,19 @@ LowestOvertaken T e = LowestEvent T (λ r. m_of T r - 1) (λ r j i. overtakes (r
 -- the rules before a rule refuse nothing
 pub record Till8 (T : Tables) : Type 0 where
   pub counts : CountsUnbroken T
-  pub stops : lowest_of (positions_to T T.routes) (stop_broken T) ≡ none
+  pub stops : lowest_of (positions_to T T.routes) (stop_broken T) ≡ None
 
 pub record Till9 (T : Tables) : Type 0 where
   pub before : Till8 T
-  pub times : lowest_time T ≡ none
+  pub times : lowest_time T ≡ None
 
 pub record Till10 (T : Tables) : Type 0 where
   pub before : Till9 T
-  pub overtaken : lowest_overtaken T ≡ none
+  pub overtaken : lowest_overtaken T ≡ None
 
 pub record Till11 (T : Tables) : Type 0 where
   pub before : Till10 T
-  pub walks : lowest_of T.walks (walk_broken T) ≡ none
+  pub walks : lowest_of T.walks (walk_broken T) ≡ None
 
 pub data FirstRefusal (T : Tables) : Refusal → Type 0 where
   by_heads : heads_broken T ≡ true → FirstRefusal T (refusal 5 64)
@@ -85,7 +84,7 @@ module _ (T : Tables) (h : CountsUnbroken T) (up : ℕ → ℕ) (rise : (a b : �
 
   module _ (broken : ℕ → ℕ → ℕ → Bool) where
     abbrev at_position : ℕ → ℕ → ℕ → Option ℕ
-    at_position r j i = given (broken r j i) (some (number r j i))
+    at_position r j i = given (broken r j i) (Some (number r j i))
 
     abbrev at_trip : ℕ → ℕ → Option ℕ
     at_trip r j = first_found (n_of T r) (at_position r j)
@@ -93,7 +92,7 @@ module _ (T : Tables) (h : CountsUnbroken T) (up : ℕ → ℕ) (rise : (a b : �
     abbrev at_route : ℕ → Option ℕ
     at_route r = first_found (trips r) (at_trip r)
 
-    event_hit : (e : ℕ) → first_found T.routes at_route ≡ some e → LowestEvent T trips broken number e
+    event_hit : (e : ℕ) → first_found T.routes at_route ≡ Some e → LowestEvent T trips broken number e
     event_hit e q =
         let x = first_found_hit T.routes at_route e q in
         let y = first_found_hit (trips x.at) (at_trip x.at) e x.is in
@@ -121,7 +120,7 @@ module _ (T : Tables) (h : CountsUnbroken T) (up : ℕ → ℕ) (rise : (a b : �
       where
         -- within one route
         in_route : (r j i e : ℕ) → number r j i ≡ e
-            → ((k : ℕ) → k < j → at_trip r k ≡ none) → ((k : ℕ) → k < i → at_position r j k ≡ none) → i < n_of T r
+            → ((k : ℕ) → k < j → at_trip r k ≡ None) → ((k : ℕ) → k < i → at_position r j k ≡ None) → i < n_of T r
             → (s k l : ℕ) → s ≡ r → l < n_of T s → number s k l < e → broken s k l ≡ false
         in_route r j i e n before lower li s k l same ll lt =
             rw same (go (rw same at ll) (rw same at lt))
@@ -145,19 +144,19 @@ module _ (T : Tables) (h : CountsUnbroken T) (up : ℕ → ℕ) (rise : (a b : �
 
 -- ---- one rule after the other
 
-else_cases : {A : Type 0} (x y : Option A) {a : A} → or_else x y ≡ some a → (x ≡ some a) ⊎ ((x ≡ none) × (y ≡ some a))
+else_cases : {A : Type 0} (x y : Option A) {a : A} → or_else x y ≡ Some a → (x ≡ Some a) ⊎ ((x ≡ None) × (y ≡ Some a))
 unfolding or_else
-else_cases (some b) y e = inl e
-else_cases none y e = inr (refl, e)
+else_cases (Some b) y e = inl e
+else_cases None y e = inr (refl, e)
 
-refused_at : (number : ℕ) (x : Option ℕ) {a : Refusal} → refused_by number x ≡ some a → (p : ℕ) × (x ≡ some p) × (refusal number p ≡ a)
+refused_at : (number : ℕ) (x : Option ℕ) {a : Refusal} → refused_by number x ≡ Some a → (p : ℕ) × (x ≡ Some p) × (refusal number p ≡ a)
 unfolding refused_by
-refused_at number none e = absurd (some_none e refl)
-refused_at number (some p) e = (p, refl, some_same e)
+refused_at number None e = absurd (some_none e refl)
+refused_at number (Some p) e = (p, refl, some_same e)
 
 -- a rule refuses at its place, or does not and the rules after it do
-rule_cases : (number : ℕ) (x : Option ℕ) (y : Option Refusal) {a : Refusal} {C : Type 0} → or_else (refused_by number x) y ≡ some a
-    → ((p : ℕ) → x ≡ some p → refusal number p ≡ a → C) → (x ≡ none → y ≡ some a → C) → C
+rule_cases : (number : ℕ) (x : Option ℕ) (y : Option Refusal) {a : Refusal} {C : Type 0} → or_else (refused_by number x) y ≡ Some a
+    → ((p : ℕ) → x ≡ Some p → refusal number p ≡ a → C) → (x ≡ None → y ≡ Some a → C) → C
 rule_cases number x y e here after =
     ⊎_elim
     (λ q. let r = refused_at number x q in here r.0 r.1 r.2)
@@ -169,26 +168,26 @@ module _ (T : Tables) (a : Refusal) where
   told : {p number : ℕ} → refusal number p ≡ a → FirstRefusal T (refusal number p) → FirstRefusal T a
   told q f = rw (← q) f
 
-  by_counts : first_broken count_rules T ≡ some a → FirstRefusal T a
+  by_counts : first_broken count_rules T ≡ Some a → FirstRefusal T a
   unfolding first_broken
   by_counts e =
-      rule_cases 5 (given (heads_broken T) (some 64)) _ e
-      (λ p q r. let g = given_some (heads_broken T) (some 64) q in
+      rule_cases 5 (given (heads_broken T) (Some 64)) _ e
+      (λ p q r. let g = given_some (heads_broken T) (Some 64) q in
       told r (rw (← some_same g.1) (by_heads g.0)))
-      (λ n e₂. rule_cases 5 (lowest_of T.routes (route_broken T)) none e₂
+      (λ n e₂. rule_cases 5 (lowest_of T.routes (route_broken T)) None e₂
       (λ p q r. told r (by_route (given_nothing (heads_broken T) 64 n) (lowest_hit T.routes (route_broken T) p q)))
       (λ _ e₃. absurd (some_none e₃ refl)))
 
-  time_place : CountsUnbroken T → (p : ℕ) → lowest_time T ≡ some p → LowestTime T p
+  time_place : CountsUnbroken T → (p : ℕ) → lowest_time T ≡ Some p → LowestTime T p
   unfolding lowest_time
   time_place h p q = event_hit T h (λ j. j) (λ _ _ l. l) (m_of T) (λ _ _ l. l) (λ r j i. time_broken (route_of T r) j i) p q
 
-  overtaken_place : CountsUnbroken T → (p : ℕ) → lowest_overtaken T ≡ some p → LowestOvertaken T p
+  overtaken_place : CountsUnbroken T → (p : ℕ) → lowest_overtaken T ≡ Some p → LowestOvertaken T p
   unfolding lowest_overtaken
   overtaken_place h p q =
       event_hit T h (λ j. j + 1) (λ _ _ l. omega arith) (λ r. m_of T r - 1) (λ _ _ l. omega arith) (λ r j i. overtakes (route_of T r) j i) p q
 
-  by_whole : CountsUnbroken T → first_broken whole_rules T ≡ some a → FirstRefusal T a
+  by_whole : CountsUnbroken T → first_broken whole_rules T ≡ Some a → FirstRefusal T a
   unfolding first_broken
   by_whole h e =
       rule_cases 7 (lowest_of (positions_to T T.routes) (stop_broken T)) _ e
@@ -202,12 +201,12 @@ module _ (T : Tables) (a : Refusal) where
       (λ n₉ e₁₀. let t₁₀ : Till10 T = record { before = t₉; overtaken = n₉ } in
       rule_cases 10 (lowest_of T.walks (walk_broken T)) _ e₁₀
       (λ p q r. told r (by_walk t₁₀ (lowest_hit T.walks (walk_broken T) p q)))
-      (λ n₁₀ e₁₁. rule_cases 11 (lowest_of T.walks (opens T)) none e₁₁
+      (λ n₁₀ e₁₁. rule_cases 11 (lowest_of T.walks (opens T)) None e₁₁
       (λ p q r. told r (by_open (record { before = t₁₀; walks = n₁₀ }) (lowest_hit T.walks (opens T) p q)))
       (λ _ e₁₂. absurd (some_none e₁₂ refl))))))
 
   -- "It is given exactly when its reason holds and none earlier in the order does", "each at its lowest place"
-  pub lowest_place : fault_of T ≡ some a → FirstRefusal T a
+  pub lowest_place : fault_of T ≡ Some a → FirstRefusal T a
   unfolding fault_of
   lowest_place e =
       ⊎_elim by_counts (λ q. by_whole (counts_unbroken T q.0) q.1) (else_cases (first_broken count_rules T) (first_broken whole_rules T) e)

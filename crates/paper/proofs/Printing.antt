@@ -2,7 +2,7 @@
 use mathlib.Core.Path.{◌≡◌, refl, ap, ◌∙◌}
 use mathlib.Core.Bool.{false, not, ◌||◌}
 use mathlib.Core.List.{List, [], ◌∷◌, ◌++◌}
-use mathlib.Core.Option.{Option, none, some}
+use Rattle.std.specs.Prelude.{Option, Some, None}
 use Prim.Native.Nat.{ℕ, suc, ◌-◌, ◌≤◌, ◌<◌}
 use native.Mathlib.Omega.{arith}
 use lib.Dec.{ltb}
@@ -12,11 +12,11 @@ use Rattle.laws.specs.Below.{mark, or_else, given, first_found}
 use Rattle.laws.proofs.Checking.{or_none, or_else_nothing}
 use Rattle.laws.proofs.Lists.{length_over}
 use Rattle.paper.specs.Timetable.{Tables}
-use Rattle.paper.specs.Rules.{Refusal, refused_by, fault_of}
+use Rattle.paper.specs.Rules.{Refusal, refusal, refused_by, fault_of}
 use Rattle.paper.specs.Reading.{read_of}
 use Rattle.paper.specs.Work.{work_of}
 use Rattle.paper.specs.Tie.{entry_of, entries_below, entries_of}
-use Rattle.paper.specs.Reply.{Asking, Kept, Marked, Labelled, Answered, zero_entry, answered, refused, refusal, legs_table, short_table, lengths_of, question_broken, read_into, ask_unless, ask_of, answer_as, legs_after, reply_of}
+use Rattle.paper.specs.Reply.{Asking, Kept, Marked, Labelled, Answered, zero_entry, answered, refused, legs_table, short_table, lengths_of, question_broken, read_into, ask_unless, ask_of, answer_as, legs_after, reply_of}
 use Rattle.paper.specs.declared.Question.{Question}
 use Rattle.paper.specs.declared.Entry.{Entry}
 use Rattle.paper.specs.declared.Answer.{Answer}
@@ -40,16 +40,16 @@ limit_of_lem T q e =
     ltb-false 8 q.limit
     (or_none (not (ltb q.start T.stops) || not (ltb q.target T.stops) || not (ltb q.time 172800)) (ltb 8 q.limit) e).1
 
-unrefused : (T : Tables) (q : Question) (x : Option Refusal) → ask_unless x T q ≡ Answered → x ≡ none
-unrefused T q none e = refl
-unrefused T q (some x) e = kept_answered e
+unrefused : (T : Tables) (q : Question) (x : Option Refusal) → ask_unless x T q ≡ Answered → x ≡ None
+unrefused T q None e = refl
+unrefused T q (Some x) e = kept_answered e
 
 -- what is answered was refused by nothing
 answered_limit : (T : Tables) (q : Question) (labels legs : ℕ) → ask_of T labels legs q ≡ Answered → q.limit ≤ 8
 unfolding ask_of
 answered_limit T q labels legs e =
-    let a = or_else_nothing (short_table (lengths_of T ++ (labels ∷ legs ∷ []))) (or_else (fault_of T) (given (question_broken T q) (some (refusal 12 0)))) (unrefused T q _ e) in
-    let b = or_else_nothing (fault_of T) (given (question_broken T q) (some (refusal 12 0))) a.1 in
+    let a = or_else_nothing (short_table (lengths_of T ++ (labels ∷ legs ∷ []))) (or_else (fault_of T) (given (question_broken T q) (Some (refusal 12 0)))) (unrefused T q _ e) in
+    let b = or_else_nothing (fault_of T) (given (question_broken T q) (Some (refusal 12 0))) a.1 in
     limit_of_lem T q (given_nothing (question_broken T q) (refusal 12 0) b.1)
 
 few_refused : (x : Refusal) → Few (refused x)
@@ -95,7 +95,7 @@ module _ (T : Tables) (q : Question) where
   reply_legs labels legs h = legs_long (ask_of T (length labels) (length legs) q) legs h
 
 -- tables of just their full size are long enough: 6 refuses nothing
-pub full_tables : short_table (256 ∷ 2048 ∷ 2048 ∷ 2048 ∷ 1536 ∷ []) ≡ none
+pub full_tables : short_table (256 ∷ 2048 ∷ 2048 ∷ 2048 ∷ 1536 ∷ []) ≡ None
 unfolding short_table first_found or_else given refused_by
 full_tables = refl
 

@@ -2,7 +2,7 @@
 use mathlib.Core.Path.{◌≡◌, refl, sym, ap, ◌∙◌, subst}
 use mathlib.Core.List.{List, [], ◌∷◌, ◌++◌, append-nil}
 use mathlib.Core.Bool.{true, cond}
-use mathlib.Core.Option.{none}
+use Rattle.std.specs.Prelude.{None}
 use Prim.Native.Nat.{ℕ, zero, suc, ◌+◌, ◌*◌, ◌-◌, ◌≤◌, ◌<◌}
 use native.Mathlib.Nat.{le_refl}
 use native.Mathlib.Omega.{arith}
@@ -290,6 +290,6 @@ module _ (T : Tables) (C : Counts T) (E : Exact T) where
       (ap (λ (t : Tables). judged t (first_broken whole_rules t)) tables_are)
 
 -- reading the feed of a sound timetable gives that timetable
-pub read_feed : (T : Tables) → Sound T → Exact T → first_broken whole_rules T ≡ none → read_of (feed_of T) ≡ Accepted T
+pub read_feed : (T : Tables) → Sound T → Exact T → first_broken whole_rules T ≡ None → read_of (feed_of T) ≡ Accepted T
 unfolding judged
 read_feed T s E h = read_judged T (sound_counts s) E ∙ ap (judged T) h

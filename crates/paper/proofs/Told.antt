@@ -2,7 +2,7 @@
 use mathlib.Core.Path.{◌≡◌, refl}
 use mathlib.Core.Bool.{Bool}
 use mathlib.Core.List.{List, [], ◌∷◌, ◌++◌, append-nil}
-use mathlib.Core.Option.{Option, none, some}
+use Rattle.std.specs.Prelude.{Option, Some, None}
 use Prim.Native.Nat.{ℕ, zero, suc, ◌+◌, ◌*◌, ◌≤◌, ◌<◌}
 use native.Mathlib.Omega.{arith}
 use lib.Dec.{eqb, ltb}
@@ -14,11 +14,11 @@ use Rattle.laws.proofs.Below.{min_below-mark, first_below_le, sum_below_at}
 use Rattle.laws.proofs.Found.{some_same, given_some, first_found_hit}
 use Rattle.laws.proofs.Checking.{or_else_nothing}
 use Rattle.paper.specs.Timetable.{Tables, n_of, m_of, events_to}
-use Rattle.paper.specs.Rules.{Refusal, refused_by, event_of, fault_of}
+use Rattle.paper.specs.Rules.{Refusal, refusal, refused_by, event_of, fault_of}
 use Rattle.paper.specs.Work.{rounds_run, work_to, work_of, passing_round, limit_of}
 use Rattle.paper.specs.Rows.{label, row_of}
 use Rattle.paper.specs.Tie.{is_entry, entries_below, entries_of}
-use Rattle.paper.specs.Reply.{refusal, short_table, lengths_of, question_broken, searched, ask_unless, ask_of, answer_as, reply_of}
+use Rattle.paper.specs.Reply.{short_table, lengths_of, question_broken, searched, ask_unless, ask_of, answer_as, reply_of}
 use Rattle.paper.specs.Lines.{answer_lines}
 use Rattle.paper.specs.declared.Question.{Question}
 use Rattle.paper.specs.declared.Entry.{Entry}
@@ -39,7 +39,7 @@ record Small (x : Refusal) : Type 0 where
   place< : x.place < 4294967296
 
 abbrev AllSmall : Option Refusal → Type 0
-AllSmall o = (x : Refusal) → o ≡ some x → Small x
+AllSmall o = (x : Refusal) → o ≡ Some x → Small x
 
 small_refusal : (n p : ℕ) → n < 4294967296 → p < 4294967296 → Small (refusal n p)
 small_refusal n p a b = record { number< = a; place< = b }
@@ -69,25 +69,25 @@ module _ (T : Tables) where
   fault_small : AllSmall (fault_of T)
   fault_small x e = first_small (lowest_place T x e)
 
-table_small : (k : ℕ) (p : ℕ → Bool) → k ≤ 7 → AllSmall (refused_by 6 (first_found k λ i. given (p i) (some (i + 1))))
+table_small : (k : ℕ) (p : ℕ → Bool) → k ≤ 7 → AllSmall (refused_by 6 (first_found k λ i. given (p i) (Some (i + 1))))
 unfolding refused_by
-table_small k p h x e = go (first_found k λ i. given (p i) (some (i + 1))) refl e
+table_small k p h x e = go (first_found k λ i. given (p i) (Some (i + 1))) refl e
   where
-    go : (o : Option ℕ) → first_found k (λ i. given (p i) (some (i + 1))) ≡ o → refused_by 6 o ≡ some x → Small x
-    go none f e = absurd (let z : ◌≡◌ {A = ℕ} 0 1 = cc in omega arith)
-    go (some n) f e =
+    go : (o : Option ℕ) → first_found k (λ i. given (p i) (Some (i + 1))) ≡ o → refused_by 6 o ≡ Some x → Small x
+    go None f e = absurd (let z : ◌≡◌ {A = ℕ} 0 1 = cc in omega arith)
+    go (Some n) f e =
         let y : refusal 6 n ≡ x = some_same e in
-        let a = first_found_hit k (λ i. given (p i) (some (i + 1))) n f in
-        let m : a.at + 1 ≡ n = some_same (given_some (p a.at) (some (a.at + 1)) a.is).1 in
+        let a = first_found_hit k (λ i. given (p i) (Some (i + 1))) n f in
+        let m : a.at + 1 ≡ n = some_same (given_some (p a.at) (Some (a.at + 1)) a.is).1 in
         rw (← y) (small_refusal 6 n (omega arith) (omega (arith, m, a.below)))
 
 or_small : (o p : Option Refusal) → AllSmall o → AllSmall p → AllSmall (or_else o p)
 unfolding or_else
-or_small none p a b = b
-or_small (some y) p a b = a
+or_small None p a b = b
+or_small (Some y) p a b = a
 
-question_small : (b : Bool) → AllSmall (given b (some (refusal 12 0)))
-question_small b x e = rw (← some_same (given_some b (some (refusal 12 0)) e).1) (small_refusal 12 0 (omega arith) (omega arith))
+question_small : (b : Bool) → AllSmall (given b (Some (refusal 12 0)))
+question_small b x e = rw (← some_same (given_some b (Some (refusal 12 0)) e).1) (small_refusal 12 0 (omega arith) (omega arith))
 
 -- ---- an answer
 
@@ -107,7 +107,7 @@ module _ (T : Tables) (q : Question) where
       also [] no_entries b = b
       also (e ∷ es) (more r a g) b = more r a (also es g b)
 
-  searched_told : fault_of T ≡ none → q.limit ≤ 8 → Told (answer_as T q (searched T q))
+  searched_told : fault_of T ≡ None → q.limit ≤ 8 → Told (answer_as T q (searched T q))
   unfolding searched answer_as passing_round rounds_run entries_of limit_of
   searched_told f h =
       let s = sound_of T f in
@@ -118,15 +118,15 @@ module _ (T : Tables) (q : Question) where
       (λ u. rw (t, u) (refuses (refusal 14 (work_of T q)) (omega arith) w))
       (λ u. rw (t, u) (tells (work_of T q) (entries_of T q) w (omega (arith, entries_few T q (suc q.limit))) (entries_told (suc q.limit) (omega arith)))))
 
-  unless_told : (o : Option Refusal) → AllSmall o → (o ≡ none → Told (answer_as T q (searched T q))) → Told (answer_as T q (ask_unless o T q))
+  unless_told : (o : Option Refusal) → AllSmall o → (o ≡ None → Told (answer_as T q (searched T q))) → Told (answer_as T q (ask_unless o T q))
   unfolding answer_as
-  unless_told none a h = h refl
-  unless_told (some x) a h = refuses x (a x refl).number< (a x refl).place<
+  unless_told None a h = h refl
+  unless_told (Some x) a h = refuses x (a x refl).number< (a x refl).place<
 
   pub reply_told : (labels legs : List ℕ) → Told (reply_of T labels legs q).answer
   unfolding reply_of ask_of short_table
   reply_told labels legs =
-      let bad : Option Refusal = given (question_broken T q) (some (refusal 12 0)) in
+      let bad : Option Refusal = given (question_broken T q) (Some (refusal 12 0)) in
       unless_told (or_else (short_table (lengths_of T ++ (length labels ∷ length legs ∷ []))) (or_else (fault_of T) bad))
       (or_small _ _ (table_small 7 _ (omega arith)) (or_small (fault_of T) bad (fault_small T) (question_small (question_broken T q))))
       (λ e.

@@ -1,7 +1,7 @@
 -- What a walk through all records that is well tells: the counts and lengths of the timetable that was read are right, before 7 to 11 are looked at.
 use mathlib.Core.Path.{◌≡◌, refl, sym, ap, ◌∙◌, subst}
 use mathlib.Core.List.{List, [], ◌∷◌, ◌++◌}
-use mathlib.Core.Option.{none}
+use Rattle.std.specs.Prelude.{None}
 use Prim.Native.Nat.{ℕ, zero, suc, ◌+◌, ◌*◌, ◌-◌, ◌<◌}
 use native.Mathlib.Omega.{arith}
 use lib.ListN.{length, length-append}
@@ -19,7 +19,7 @@ use Rattle.paper.specs.Demands.{Exact}
 use Rattle.paper.proofs.HeadRead.{head_counts, head_well, whole_records, last_well}
 
 -- right counts are refused by no rule of 5
-pub counts_unbroken : (T : Tables) → Counts T → first_broken count_rules T ≡ none
+pub counts_unbroken : (T : Tables) → Counts T → first_broken count_rules T ≡ None
 counts_unbroken T c = counts_none T (counts_of T c)
 
 -- ---- the walks: three elements each

@@ -1,9 +1,9 @@
 -- The five numbers one after the other are 01's question.
+use Rattle.std.specs.Prelude.{Option, Some, None}
 use mathlib.Core.Path.{◌≡◌, refl, sym, ap, ◌∙◌}
 use mathlib.Core.Bool.{Bool, true, false, cond, ◌&&◌}
 use mathlib.Core.List.{List, [], ◌∷◌, ◌++◌, map, append_assoc, append-nil}
-use mathlib.Core.Option.{Option, none, some}
-use Prim.Native.Nat.{ℕ, zero, suc, ◌+◌, ◌≤◌, ◌<◌}
+use Prim.Native.Nat.{ℕ, zero, suc, ◌+◌, ◌≤◌}
 use native.Mathlib.Omega.{arith}
 use lib.Dec.{eqb, leb, ltb, eqb-suc-suc}
 use lib.ListN.{length, get_or, take, drop, length-append, take-append-drop, get_or-map}
@@ -15,9 +15,8 @@ use Rattle.laws.proofs.Tests.{by_test, by_lt, and_no}
 use Rattle.laws.proofs.Below.{first_below_le}
 use Rattle.paper.specs.Lines.{space, newline, line_end, is_line, fields_of, value_from, is_digit, is_number, number_at, question_in, question_of}
 use Rattle.paper.proofs.Lines.{Without, without_right, without_rest, Cut, whole, parted, cut, fields_of_whole, fields_of_parted, Tail, unended, ended, first_of, first_without, first_tail}
-use Rattle.question_line.specs.declared.Asked.{Asked}
-use Rattle.question_line.specs.declared.Field.{Field}
-use Rattle.question_line.specs.Asking.{asked_of, field_at}
+use Rattle.paper.specs.declared.Question.{Question}
+use Rattle.question_line.specs.Asking.{field_at}
 use Rattle.question_line.proofs.Fields.{field_miss, field_other, field_number, number_space}
 
 -- ---- the numbers read, and the place past the newline
@@ -27,34 +26,34 @@ pub record Numbers : Type 0 where
   pub end : ℕ
 
 abbrev consed : ℕ → Option Numbers → Option Numbers
-consed x none = none
-consed x (some ns) = some (record { values = x ∷ ns.values; end = ns.end })
+consed x None = None
+consed x (Some ns) = Some (record { values = x ∷ ns.values; end = ns.end })
 
-abbrev last_of : Field → Option Numbers
-last_of (Field.Number x next) = some (record { values = x ∷ []; end = next })
-last_of Field.Bad = none
+abbrev last_of : Option (ℕ × ℕ) → Option Numbers
+last_of None = None
+last_of (Some field) = Some (record { values = field.0 ∷ []; end = field.1 })
 
-abbrev then_of : Field → (ℕ → Option Numbers) → Option Numbers
-then_of (Field.Number x next) f = consed x (f next)
-then_of Field.Bad f = none
+abbrev then_of : Option (ℕ × ℕ) → (ℕ → Option Numbers) → Option Numbers
+then_of None f = None
+then_of (Some field) f = consed field.0 (f field.1)
 
 -- k numbers that end with a space, and one that ends with the newline
 unfoldable pub chain : List ℕ → ℕ → ℕ → Option Numbers
 chain input zero at = last_of (field_at input at newline)
 chain input (suc k) at = then_of (field_at input at space) (chain input k)
 
-abbrev pub finish : Option Numbers → Asked
-finish none = Asked.Unreadable
-finish (some ns) =
+abbrev pub finish : Option Numbers → Option Question
+finish None = None
+finish (Some ns) =
     cond (leb ns.end 81)
-    (Asked.Line (record {
+    (Some (record {
       start = get_or ns.values 0 0;
       target = get_or ns.values 1 0;
       time = get_or ns.values 2 0;
       limit = get_or ns.values 3 0;
       budget = get_or ns.values 4 0;
     }))
-    Asked.Unreadable
+    None
 
 -- ---- the same of a line whose fields are known
 
@@ -71,7 +70,7 @@ numbers_at fields end = record { values = map (value_from 0) fields; end = end }
 abbrev good : Bool → ℕ → List (List ℕ) → Bool
 good t k fields = t && eqb (length fields) (suc k) && every is_number fields
 
-consed_given : (b : Bool) (x : ℕ) (ns : Numbers) → consed x (given b (some ns)) ≡ given b (some (record { values = x ∷ ns.values; end = ns.end }))
+consed_given : (b : Bool) (x : ℕ) (ns : Numbers) → consed x (given b (Some ns)) ≡ given b (Some (record { values = x ∷ ns.values; end = ns.end }))
 unfolding given
 consed_given true x ns = refl
 consed_given false x ns = refl
@@ -84,7 +83,7 @@ module _ (input : List ℕ) where
   -- the last number: it ends with the newline
   last_is :
       (at : ℕ) (bs : List ℕ) {t : Bool} {end : List ℕ} → Cut bs → Without newline bs → Tail newline t end → drop at input ≡ bs ++ end
-      → last_of (field_at input at newline) ≡ given (good t 0 (fields_of bs)) (some (numbers_at (fields_of bs) (at + length bs + 1)))
+      → last_of (field_at input at newline) ≡ given (good t 0 (fields_of bs)) (Some (numbers_at (fields_of bs) (at + length bs + 1)))
   unfolding given every
   last_is at bs c w unended d = rw (d, append-nil, field_miss at at 0 w)
   last_is at bs (whole s) w (ended rest) d =
@@ -101,8 +100,8 @@ module _ (input : List ℕ) where
   more_is :
       (k at : ℕ) (bs : List ℕ) {t : Bool} {end : List ℕ} → Cut bs → Without newline bs → Tail newline t end → drop at input ≡ bs ++ end
       → ((to : ℕ) (rest : List ℕ) → Without newline rest → drop to input ≡ rest ++ end
-      → chain input k to ≡ given (good t k (fields_of rest)) (some (numbers_at (fields_of rest) (to + length rest + 1))))
-      → then_of (field_at input at space) (chain input k) ≡ given (good t (suc k) (fields_of bs)) (some (numbers_at (fields_of bs) (at + length bs + 1)))
+      → chain input k to ≡ given (good t k (fields_of rest)) (Some (numbers_at (fields_of rest) (to + length rest + 1))))
+      → then_of (field_at input at space) (chain input k) ≡ given (good t (suc k) (fields_of bs)) (Some (numbers_at (fields_of bs) (at + length bs + 1)))
   unfolding given every
   more_is k at bs {t} (whole s) w unended d next = rw (d, append-nil, field_miss at at 0 s)
   more_is k at bs {t} (whole s) w (ended rest) d next =
@@ -124,7 +123,7 @@ module _ (input : List ℕ) where
 
   pub chain_is :
       (k at : ℕ) (bs : List ℕ) {t : Bool} {end : List ℕ} → Without newline bs → Tail newline t end → drop at input ≡ bs ++ end
-      → chain input k at ≡ given (good t k (fields_of bs)) (some (numbers_at (fields_of bs) (at + length bs + 1)))
+      → chain input k at ≡ given (good t k (fields_of bs)) (Some (numbers_at (fields_of bs) (at + length bs + 1)))
   unfolding chain
   chain_is zero at bs w e d = last_is at bs (cut bs) w e d
   chain_is (suc k) at bs w e d = more_is k at bs (cut bs) w e d (λ to rest v on. chain_is k to rest v e on)
@@ -139,7 +138,7 @@ end_most n =
 
 finish_is :
     (fields : List (List ℕ)) (n : ℕ) (t : Bool)
-    → finish (given (good t 4 fields) (some (numbers_at fields (0 + n + 1)))) ≡ asked_of (given (t && leb n 80) (question_in fields))
+    → finish (given (good t 4 fields) (Some (numbers_at fields (0 + n + 1)))) ≡ given (t && leb n 80) (question_in fields)
 unfolding given question_in
 finish_is fields n false = refl
 finish_is fields n true =
@@ -153,7 +152,7 @@ finish_is fields n true =
     (λ f. rw (f, end_most, l))
     (λ f. rw (f, l)))
 
-pub parse_is : (input : List ℕ) → finish (chain input 4 0) ≡ asked_of (question_of input)
+pub parse_is : (input : List ℕ) → finish (chain input 4 0) ≡ question_of input
 unfolding question_of is_line line_end
 parse_is input =
     let e : ℕ = first_of newline input in
@@ -162,43 +161,3 @@ parse_is input =
       length-take-le e input (first_below_le _ _),
     )
     (finish_is (fields_of (take e input)) e (ltb e (length input)))
-
--- ---- in the words of the code: which number is bad, or that all are read
-
-abbrev Unread : List ℕ → Type 0
-Unread input = Asked.Unreadable ≡ asked_of (question_of input)
-
-module _ (input : List ℕ) where
-  pub bad_first : field_at input 0 space ≡ Field.Bad → Unread input
-  unfolding chain
-  bad_first e = rw e at (parse_is input)
-
-  module _ {x1 p1 : ℕ} (e1 : field_at input 0 space ≡ Field.Number x1 p1) where
-    pub bad_second : field_at input p1 space ≡ Field.Bad → Unread input
-    unfolding chain
-    bad_second e = rw (e1, e) at (parse_is input)
-
-    module _ {x2 p2 : ℕ} (e2 : field_at input p1 space ≡ Field.Number x2 p2) where
-      pub bad_third : field_at input p2 space ≡ Field.Bad → Unread input
-      unfolding chain
-      bad_third e = rw (e1, e2, e) at (parse_is input)
-
-      module _ {x3 p3 : ℕ} (e3 : field_at input p2 space ≡ Field.Number x3 p3) where
-        pub bad_fourth : field_at input p3 space ≡ Field.Bad → Unread input
-        unfolding chain
-        bad_fourth e = rw (e1, e2, e3, e) at (parse_is input)
-
-        module _ {x4 p4 : ℕ} (e4 : field_at input p3 space ≡ Field.Number x4 p4) where
-          pub bad_fifth : field_at input p4 newline ≡ Field.Bad → Unread input
-          unfolding chain
-          bad_fifth e = rw (e1, e2, e3, e4, e) at (parse_is input)
-
-          module _ {x5 p5 : ℕ} (e5 : field_at input p4 newline ≡ Field.Number x5 p5) where
-            pub too_long : 81 < p5 → Unread input
-            unfolding chain
-            too_long l = rw (e1, e2, e3, e4, e5, lt-leb p5 81 l) at (parse_is input)
-
-            pub all_read :
-                p5 ≤ 81 → Asked.Line (record { start = x1; target = x2; time = x3; limit = x4; budget = x5 }) ≡ asked_of (question_of input)
-            unfolding chain
-            all_read l = rw (e1, e2, e3, e4, e5, le-leb p5 81 l) at (parse_is input)

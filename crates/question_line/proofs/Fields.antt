@@ -8,11 +8,11 @@ use native.Mathlib.Omega.{arith}
 use lib.Dec.{eqb, ltb}
 use lib.ListN.{length}
 use borrow.Author.Tests.{lt-ltb, le-ltb, le-leb, lt-leb, eq-eqb}
+use Rattle.std.specs.Prelude.{Option, Some, None}
 use Rattle.laws.specs.Lists.{every}
 use Rattle.laws.proofs.Tests.{by_test, by_lt, and_no}
 use Rattle.paper.specs.Lines.{space, value_from, is_digit, is_number}
 use Rattle.paper.proofs.Lines.{Without, blank, also}
-use Rattle.question_line.specs.declared.Field.{Field}
 use Rattle.question_line.specs.Asking.{field_from}
 
 pub and_true_right : (a : Bool) → (a && true) ≡ a
@@ -28,8 +28,8 @@ value_grows x (b ∷ bs) = omega (arith, value_grows (x * 10 + (b - 48)) bs)
 unfoldable fits : ℕ → ℕ → ℕ → List ℕ → Bool
 fits from i x bs = ltb from (i + length bs) && every is_digit bs && ltb (value_from x bs) 4294967296
 
-abbrev found : Bool → ℕ → ℕ → Field
-found b x next = cond b (Field.Number x next) Field.Bad
+abbrev found : Bool → ℕ → ℕ → Option (ℕ × ℕ)
+found b x next = cond b (Some (x, next)) None
 
 field_hit :
     {stop : ℕ} {bs : List ℕ} (from i x : ℕ) (rest : List ℕ) → Without stop bs → x < 4294967296
@@ -51,7 +51,7 @@ field_hit {stop} from i x rest (also {b} {bs} e w) h =
     )))
     (λ d. rw (e, d, and_no))
 
-pub field_miss : {stop : ℕ} {bs : List ℕ} (from i x : ℕ) → Without stop bs → field_from stop from i x bs ≡ Field.Bad
+pub field_miss : {stop : ℕ} {bs : List ℕ} (from i x : ℕ) → Without stop bs → field_from stop from i x bs ≡ None
 unfolding field_from
 field_miss from i x blank = refl
 field_miss from i x (also {b} {bs} e w) =
@@ -60,7 +60,7 @@ field_miss from i x (also {b} {bs} e w) =
 -- a byte that is neither a digit nor the end stands in the way
 pub field_other :
     {stop : ℕ} {bs : List ℕ} (from i x z : ℕ) (rest : List ℕ) → eqb z stop ≡ false → is_digit z ≡ false → Without stop bs
-    → field_from stop from i x (bs ++ (z ∷ rest)) ≡ Field.Bad
+    → field_from stop from i x (bs ++ (z ∷ rest)) ≡ None
 unfolding field_from
 field_other from i x z rest o d blank = rw (o, d)
 field_other from i x z rest o d (also {b} {bs} e w) =

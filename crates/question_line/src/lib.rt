@@ -3,76 +3,42 @@
 
 ghost use Rattle.std.specs.Prelude.{◌≡◌};
 ghost use Rattle.paper.specs.Lines.{question_of};
-ghost use Rattle.question_line.specs.Asking.{asked_of, field_at};
+ghost use Rattle.question_line.specs.Asking.{field_at};
 
 use paper::Question;
 
-// The line asks a question; or it has another shape.
-#[derive(Clone, Copy)]
-pub enum Asked {
-    Line(Question),
-    Unreadable,
-}
-
-// A number of the line, and the place past the byte that ends it; or no number of 32 bits.
-#[derive(Clone, Copy)]
-enum Field {
-    Number(u32, usize),
-    Bad,
-}
-
-// The number at `at`, of one digit or more up to the byte `stop`.
-fn number_at(input: &[u8], at: usize, stop: u8) -> Field
+// The number at `at`, of one digit or more up to the byte `stop`, and the place past that byte; or none of 32 bits.
+fn number_at(input: &[u8], at: usize, stop: u8) -> Option<(u32, usize)>
     ensures { result ≡ field_at input.now at stop }
 {
-    let mut value: u64 = 0;
-    let mut i = at;
-    while i < input.len() {
+    let mut value: u32 = 0;
+    for i in at..input.len() {
         let byte = input[i];
         if byte == stop {
-            if at < i {
-                return Field::Number(value as u32, i + 1);
-            }
-            return Field::Bad;
+            return if at < i { Some((value, i + 1)) } else { None };
         }
-        if byte < b'0' {
-            return Field::Bad;
+        if !byte.is_ascii_digit() {
+            return None;
         }
-        if b'9' < byte {
-            return Field::Bad;
-        }
-        value = value * 10 + (byte - b'0') as u64;
-        if 4294967295 < value {
-            return Field::Bad;
-        }
-        i += 1;
+        let digit = u32::from(byte - b'0');
+        value = value.checked_mul(10)?.checked_add(digit)?;
     }
-    Field::Bad
+    None
 }
 
 // Five numbers with one space between and a newline at the end, within 81 bytes.
-pub fn parse(input: &[u8]) -> Asked
-    ensures { result ≡ asked_of (question_of input.now) }
+pub fn parse(input: &[u8]) -> Option<Question>
+    ensures { result ≡ question_of input.now }
 {
-    let Field::Number(start, second) = number_at(input, 0, b' ') else {
-        return Asked::Unreadable;
-    };
-    let Field::Number(target, third) = number_at(input, second, b' ') else {
-        return Asked::Unreadable;
-    };
-    let Field::Number(time, fourth) = number_at(input, third, b' ') else {
-        return Asked::Unreadable;
-    };
-    let Field::Number(limit, fifth) = number_at(input, fourth, b' ') else {
-        return Asked::Unreadable;
-    };
-    let Field::Number(budget, end) = number_at(input, fifth, b'\n') else {
-        return Asked::Unreadable;
-    };
+    let (start, second) = number_at(input, 0, b' ')?;
+    let (target, third) = number_at(input, second, b' ')?;
+    let (time, fourth) = number_at(input, third, b' ')?;
+    let (limit, fifth) = number_at(input, fourth, b' ')?;
+    let (budget, end) = number_at(input, fifth, b'\n')?;
     if 81 < end {
-        return Asked::Unreadable;
+        return None;
     }
-    Asked::Line(Question {
+    Some(Question {
         start,
         target,
         time,

@@ -1,139 +1,144 @@
 -- Head, routes, walks and the end together.
 use mathlib.Core.Path.{◌≡◌, refl, sym, ◌∙◌, subst}
 use mathlib.Core.List.{List, []}
-use Prim.Native.Nat.{ℕ, ◌*◌, ◌-◌, ◌≤◌, ◌<◌}
+use Prim.Native.Nat.{ℕ, ◌-◌, ◌≤◌, ◌<◌}
 use native.Mathlib.Omega.{arith}
 use lib.ListN.{length}
 use lib.Dec.{eqb}
 use borrow.Author.Tests.{eq-eqb, ne_eqb}
+use Rattle.std.specs.Borrow.{MutBor}
+use Rattle.std.specs.Prelude.{⊤, Result, Ok, Err}
 use Rattle.laws.specs.Below.{iterate}
 use Rattle.laws.specs.Fields.{byte, two}
 use Rattle.laws.proofs.Tests.{by_test}
-use Rattle.paper.specs.Reading.{Routes, next_route, no_routes, next_walk, records_of, head_bad, head_only, whole_of}
+use Rattle.paper.specs.Reading.{Routes, Walks, next_route, no_routes, next_walk, records_of, head_bad, head_only, whole_of}
+use Rattle.paper.specs.declared.Refusal.{Refusal}
+use Rattle.paper.specs.declared.Room.{Room}
 use Rattle.paper.proofs.HeadRead.{head_counts}
 use Rattle.head.specs.Head.{HeadDone}
-use Rattle.head.specs.declared.Head.{Head}
 use Rattle.route_records.specs.Keep.{Holds}
-use Rattle.route_records.specs.State.{RoutesRoom, RoutesDone}
+use Rattle.route_records.specs.State.{RoutesRoom, RoutesOn, no_mid}
 use Rattle.route_records.specs.declared.RoutesRead.{RoutesRead}
-use Rattle.records.specs.State.{walks_of, WalkRoom, WalksOn, Near4, Fills, last_bad, RestRoom, walks_from, RestDone, Ended, BodyRoom}
-use Rattle.records.specs.declared.walks.WalksRead.{WalksRead}
-use Rattle.records.specs.declared.Last.{Last}
+use Rattle.route_records.proofs.Held.{iterate_stays}
+use Rattle.route_records.proofs.Trip.{all_kept}
+use Rattle.records.specs.State.{Fills, RestRoom, walks_from, RestDone, Ended, BodyRoom}
 
--- ---- routes, walks and the end
-
-fills : {n k : ℕ} {xs d₀ d : List ℕ} → k ≤ n → Holds xs k d₀ d → Fills n xs d₀ d
-fills l h = record { fits = omega (arith, h.long); is = h.is }
-
--- the walks and the end, from where the routes ended
-module _ {f g : List ℕ} {e at : ℕ} (pre : RestRoom e at f g) {bad j : ℕ} (ej : j ≡ two f 5) where
-  pub walks_room : WalkRoom e (3 * j) (record { bad = bad; at = at; used = 0 }) f g
-  walks_room =
-      record {
-        within = pre.within;
-        feed = pre.feed;
-        small = omega (arith, pre.feed, pre.small);
-        long5 = omega (arith, pre.walks≤, pre.long5);
-      }
-
-  module _ {t : WalksRead} {g' : List ℕ} (w : WalksOn e (3 * j) (record { bad = bad; at = at; used = 0 })
-      (iterate j (next_walk f e) (walks_of (record { bad = bad; at = at; used = 0 }) g)) t g g') where
-    pub end_near : Near4 f t.at
-    end_near = record { at≤ = omega (arith, w.within, pre.feed, pre.small); feed≤ = pre.small }
-
-    pub rest_done : {b : ℕ} → b ≡ last_bad f t.bad t.at → RestDone (walks_from f e bad at) f (record { bad = b; at = t.at }) g g'
-    rest_done q =
-        let v = w.held in
-        rw (← ej)
-        (record {
-          small = end_near.at≤;
-          bad = q ∙ (λ i. last_bad f (v.bad i) (v.at i));
-          at = v.at;
-          walks = fills (omega (arith, w.most, pre.walks≤)) v.walks;
-        })
-
--- a feed whose head is right, and tables to read it into
-pub record HeadRoom (f h p a d g : List ℕ) : Type 0 where
-  pub body : BodyRoom f h p a d g
-  pub routes≤ : byte f 4 ≤ 64
-  pub walks≤ : two f 5 ≤ 512
-
-module _ {f h p a d g : List ℕ} (pre : HeadRoom f h p a d g) {k : ℕ} (ek : k ≡ byte f 4) where
-  pub routes_room : RoutesRoom (length f - 4) k f h p a d
-  routes_room =
-      record {
-        behind_head = omega (arith, pre.body);
-        feed = omega (arith, pre.body);
-        small = omega (arith, pre.body);
-        k≤ = omega (arith, pre.routes≤);
-        long1 = pre.body.full.long1;
-        long2 = pre.body.full.long2;
-        long3 = pre.body.full.long3;
-        long4 = pre.body.full.long4;
-      }
-
-  module _ {q : RoutesRead} {h' p' a' d' : List ℕ} (r : RoutesDone (length f - 4) k f q h h' p p' a a' d d') where
-    pub rest_room : RestRoom (length f - 4) q.at f g
-    rest_room =
-        record {
-          within = r.room.within;
-          feed = r.room.feed;
-          small = pre.body.feed≤;
-          walks≤ = pre.walks≤;
-          long5 = pre.body.full.long5;
-        }
-
-    pub ended_rest : {l : Last} {g' : List ℕ} → RestDone (walks_from f (length f - 4) q.bad q.at) f l g g'
-        → Ended (records_of f (byte f 4) (two f 5)) l h h' p p' a a' d d' g g'
-    unfolding records_of
-    ended_rest {l} {g'} w =
-        let n : ℕ = length f - 4 in
-        let R : Routes = iterate k (next_route f n) no_routes in
-        let v : RestDone (walks_from f n R.bad R.at) f l g g'
-        = subst (λ (x : ℕ × ℕ). RestDone (walks_from f n x.0 x.1) f l g g') (λ i. (r.held.bad i, r.held.at i)) w in
-        rw (← ek)
-        (record {
-          small = w.small;
-          bad = v.bad;
-          at = v.at;
-          filled = record {
-            routes = fills r.heads≤ r.held.heads;
-            positions = fills r.room.positions r.held.positions;
-            arrivals = fills r.room.events r.held.arrivals;
-            departures = fills r.room.events r.held.departures;
-            walks = v.walks;
-          };
-        })
-
--- ---- the head
+fills : {k m n : ℕ} {xs d₀ d : List ℕ} → m ≤ n → Holds k m xs d₀ d → Fills n xs d₀ d
+fills l h = record { fits = omega (arith, h.most); is = h.is }
 
 fills_none : {n : ℕ} {d : List ℕ} → Fills n [] d d
 fills_none = record { fits = omega arith; is = refl }
 
-place_small : {b : ℕ} {r : Head} → HeadDone b r → r.at < 32768
+-- ---- the head
+
+place_small : (b : ℕ) → (head_only b).at < 32768
 unfolding head_only
-place_small {b} {r} head =
-    by_test (eqb b 4)
-    (λ t. let e : r.at ≡ 2 = head.at ∙ simp t in omega arith)
-    (λ t. let e : r.at ≡ 0 = head.at ∙ simp t in omega arith)
+place_small b = by_test (eqb b 4) (λ t. simp t (omega arith)) (λ t. simp t (omega arith))
 
-module _ (f : List ℕ) {r : Head} (head : HeadDone (head_bad f) r) {h p a d g : List ℕ} where
-  pub head_room : BodyRoom f h p a d g → r.bad ≡ 0 → HeadRoom f h p a d g
-  head_room room z =
-      let c = head_counts f (sym head.bad ∙ z) in
-      record { body = room; routes≤ = c.0; walks≤ = c.1 }
+pub ended_head : (f : List ℕ) {x : Refusal} {room : Room} → HeadDone (head_bad f) (Err x) → Ended (whole_of f) (Err x) room room
+unfolding whole_of head_only
+ended_head f head =
+    simp (ne_eqb (head_bad f) 0 head.0)
+    (record {
+      small = place_small (head_bad f);
+      end = record { met = head.0; is = head.1 };
+      filled = record {
+        routes = fills_none;
+        positions = fills_none;
+        arrivals = fills_none;
+        departures = fills_none;
+        walks = fills_none;
+        kept = all_kept;
+      };
+    })
 
-  pub ended_head : (r.bad ≡ 0 → ⊥) → Ended (whole_of f) (record { bad = r.bad; at = r.at }) h h p p a a d d g g
-  unfolding whole_of head_only
-  ended_head z =
-      simp (ne_eqb (head_bad f) 0 (λ y. z (head.bad ∙ y)))
-      (record {
-        small = place_small head;
-        bad = head.bad;
-        at = head.at;
-        filled = record { routes = fills_none; positions = fills_none; arrivals = fills_none; departures = fills_none; walks = fills_none };
-      })
+-- ---- routes, walks and the end, behind a good head
 
-  pub ended_records : r.bad ≡ 0 → {l : Last} {h' p' a' d' g' : List ℕ} → Ended (records_of f (byte f 4) (two f 5)) l h h' p p' a a' d d' g g' → Ended (whole_of f) l h h' p p' a a' d d' g g'
+module _ {f : List ℕ} {old : Room} (pre : BodyRoom f old) (head : head_bad f ≡ 0) {k : ℕ} (ek : k ≡ byte f 4) where
+  pub routes_room : RoutesRoom (length f - 4) k f old
+  routes_room =
+      let u = pre.full in
+      record {
+        behind_head = omega (arith, pre);
+        feed = omega (arith, pre);
+        small = omega (arith, pre);
+        k≤ = omega (arith, (head_counts f head).0);
+        long1 = u.long1;
+        long2 = u.long2;
+        long3 = u.long3;
+        long4 = u.long4;
+      }
+
+  abbrev to : Routes
+  to = iterate k (next_route f (length f - 4)) no_routes
+
+  whole_is : whole_of f ≡ records_of f (byte f 4) (two f 5)
   unfolding whole_of
-  ended_records z w = simp (eq-eqb (head_bad f) 0 (sym head.bad ∙ z)) w
+  whole_is = simp (eq-eqb (head_bad f) 0 head)
+
+  -- a bad route: no walk is read behind it
+  pub ended_routes : {x : Refusal} {new : Room} → RoutesOn (length f - 4) k no_mid to (Err x) old new → Ended (whole_of f) (Err x) old new
+  unfolding records_of next_walk iterate
+  ended_routes {x} {new} r =
+      let v = r.held in
+      let n = length f - 4 in
+      let w : Walks = record { bad = to.bad; at = to.at; t5 = [] } in
+      let t : iterate (two f 5) (next_walk f n) w ≡ w
+      = iterate_stays (next_walk f n) w 0 (simp (ne_eqb to.bad 0 r.end.met)) (two f 5) (omega arith) in
+      rw whole_is
+      (rw (← ek)
+      (simp (t, ne_eqb to.bad 0 r.end.met)
+      (record {
+        small = omega (arith, r.limits.within, pre.feed≤);
+        end = r.end;
+        filled = record {
+          routes = fills (omega (arith, (head_counts f head).0)) v.routes;
+          positions = fills (omega arith) v.positions;
+          arrivals = fills (omega arith) v.arrivals;
+          departures = fills (omega arith) v.departures;
+          walks = rw v.walks fills_none;
+          kept = v.kept;
+        };
+      })))
+
+  module _ {q : RoutesRead} {mid : Room} (r : RoutesOn (length f - 4) k no_mid to (Ok q) old mid) where
+    pub rest_room : RestRoom (length f - 4) q.at f mid.walks.now
+    rest_room =
+        record {
+          within = omega (arith, r.end.at, r.limits.within);
+          feed = omega (arith, pre);
+          small = pre.feed≤;
+          walks≤ = (head_counts f head).1;
+          long5 = rw r.held.walks pre.full.long5;
+        }
+
+    pub ended_rest : (g : MutBor (List ℕ)) → g.ghost_name ≡ mid.walks.ghost_name → {z : Result ⊤ Refusal}
+        → RestDone f (walks_from f (length f - 4) 0 q.at) z mid.walks.now g.now
+        → Ended (whole_of f) z old
+        (record { routes = mid.routes; positions = mid.positions; arrivals = mid.arrivals; departures = mid.departures; walks = g })
+    unfolding records_of
+    ended_rest g same {z} d =
+        let v = r.held in
+        let n = length f - 4 in
+        let e : walks_from f n 0 q.at ≡ walks_from f n to.bad to.at = λ i. walks_from f n (sym r.end.bad i) (r.end.at i) in
+        let x = subst (λ (w : Walks). RestDone f w z mid.walks.now g.now) e d in
+        rw whole_is
+        (rw (← ek)
+        (record {
+          small = x.small;
+          end = x.end;
+          filled = record {
+            routes = fills (omega (arith, (head_counts f head).0)) v.routes;
+            positions = fills (omega arith) v.positions;
+            arrivals = fills (omega arith) v.arrivals;
+            departures = fills (omega arith) v.departures;
+            walks = rw v.walks at x.walks;
+            kept = record {
+              routes = v.kept.routes;
+              positions = v.kept.positions;
+              arrivals = v.kept.arrivals;
+              departures = v.kept.departures;
+              walks = same ∙ v.kept.walks;
+            };
+          };
+        }))

@@ -1,22 +1,28 @@
 -- What the code holds while it reads walks, and all records together, tied to 01's reading.
-use Rattle.std.specs.Prelude.{◌≡◌, cond, List, [], ℕ, ◌+◌, ◌≤◌, ◌<◌, length, take, eqb}
+use Rattle.std.specs.Prelude.{◌≡◌, ⊤, cond, List, [], ℕ, ◌+◌, ◌≤◌, ◌<◌, length, take, eqb, Result, Ok, Err}
 use Rattle.laws.specs.Below.{iterate}
 use Rattle.laws.specs.Lists.{over}
 use Rattle.laws.specs.Fields.{two}
 use Rattle.paper.specs.Reading.{Walks, next_walk, ended, Whole}
-use Rattle.route_records.specs.Keep.{Holds}
+use Rattle.paper.specs.declared.Refusal.{Refusal}
+use Rattle.paper.specs.declared.Room.{Room}
+use Rattle.route_records.specs.Keep.{Holds, Kept, Refused}
 use Rattle.records.specs.declared.walks.WalksRead.{WalksRead}
-use Rattle.records.specs.declared.Last.{Last}
 
 -- ---- the walks
 
 abbrev pub walks_of : WalksRead → List ℕ → Walks
-walks_of s d = record { bad = s.bad; at = s.at; t5 = take s.used d }
+walks_of s d = record { bad = 0; at = s.at; t5 = take s.used d }
 
-pub record WalksHeld (w : Walks) (s : WalksRead) (d₀ d : List ℕ) : Type 0 where
-  pub bad : s.bad ≡ w.bad
-  pub at : s.at ≡ w.at
-  pub walks : Holds w.t5 s.used d₀ d
+-- the reading w is well, and r stands for it
+pub record WalksWell (w : Walks) (r : WalksRead) : Type 0 where
+  pub bad : w.bad ≡ 0
+  pub at : r.at ≡ w.at
+  pub walks : r.used ≡ length w.t5
+
+abbrev pub WalksEnd : Walks → Result WalksRead Refusal → Type 0
+WalksEnd w (Ok r) = WalksWell w r
+WalksEnd w (Err x) = Refused w.bad w.at x
 
 -- there is room for k elements more
 pub record WalkRoom (e k : ℕ) (s : WalksRead) (f d : List ℕ) : Type 0 where
@@ -26,11 +32,10 @@ pub record WalkRoom (e k : ℕ) (s : WalksRead) (f d : List ℕ) : Type 0 where
   pub long5 : s.used + k ≤ length d
 
 -- from s the reading w was reached, and r stands for it: with at most k elements more
-pub record WalksOn (e k : ℕ) (s : WalksRead) (w : Walks) (r : WalksRead) (d₀ d : List ℕ) : Type 0 where
-  pub within : r.at ≤ e
-  pub grown : s.used ≤ r.used
-  pub most : r.used ≤ s.used + k
-  pub held : WalksHeld w r d₀ d
+pub record WalksOn (e k : ℕ) (s : WalksRead) (w : Walks) (r : Result WalksRead Refusal) (d₀ d : List ℕ) : Type 0 where
+  pub within : w.at ≤ e
+  pub walks : Holds s.used (s.used + k) w.t5 d₀ d
+  pub end : WalksEnd w r
 
 -- ---- all records
 
@@ -60,38 +65,42 @@ pub record RestRoom (e at : ℕ) (f g : List ℕ) : Type 0 where
 abbrev pub walks_from : List ℕ → ℕ → ℕ → ℕ → Walks
 walks_from f e bad at = iterate (two f 5) (next_walk f e) (record { bad = bad; at = at; t5 = [] })
 
+-- a reading ended with this number at `at`, within what a place can be
+abbrev pub EndsAt : ℕ → ℕ → Result ⊤ Refusal → Type 0
+EndsAt bad at (Ok x) = bad ≡ 0
+EndsAt bad at (Err x) = Refused bad at x
+
 -- the walks w were read, and the end looked for
-pub record RestDone (w : Walks) (f : List ℕ) (l : Last) (g₀ g : List ℕ) : Type 0 where
-  pub small : l.at < 32768
-  pub bad : l.bad ≡ last_bad f w.bad w.at
-  pub at : l.at ≡ w.at
+pub record RestDone (f : List ℕ) (w : Walks) (r : Result ⊤ Refusal) (g₀ g : List ℕ) : Type 0 where
+  pub small : w.at < 32768
+  pub end : EndsAt (last_bad f w.bad w.at) w.at r
   pub walks : Fills 1536 w.t5 g₀ g
 
 -- the five tables hold what the reading of all records found
-pub record Filled (w : Whole) (h₀ h p₀ p a₀ a d₀ d g₀ g : List ℕ) : Type 0 where
-  pub routes : Fills 256 w.t1 h₀ h
-  pub positions : Fills 2048 w.t2 p₀ p
-  pub arrivals : Fills 2048 w.t3 a₀ a
-  pub departures : Fills 2048 w.t4 d₀ d
-  pub walks : Fills 1536 w.t5 g₀ g
+pub record Filled (w : Whole) (old new : Room) : Type 0 where
+  pub routes : Fills 256 w.t1 old.routes.now new.routes.now
+  pub positions : Fills 2048 w.t2 old.positions.now new.positions.now
+  pub arrivals : Fills 2048 w.t3 old.arrivals.now new.arrivals.now
+  pub departures : Fills 2048 w.t4 old.departures.now new.departures.now
+  pub walks : Fills 1536 w.t5 old.walks.now new.walks.now
+  pub kept : Kept old new
 
--- and the reading ended at l
-pub record Ended (w : Whole) (l : Last) (h₀ h p₀ p a₀ a d₀ d g₀ g : List ℕ) : Type 0 where
-  pub small : l.at < 32768
-  pub bad : l.bad ≡ w.bad
-  pub at : l.at ≡ w.at
-  pub filled : Filled w h₀ h p₀ p a₀ a d₀ d g₀ g
+-- and the reading ended so
+pub record Ended (w : Whole) (r : Result ⊤ Refusal) (old new : Room) : Type 0 where
+  pub small : w.at < 32768
+  pub end : EndsAt w.bad w.at r
+  pub filled : Filled w old new
 
 -- each lent table has its full size
-pub record Full (h p a d g : List ℕ) : Type 0 where
-  pub long1 : 256 ≤ length h
-  pub long2 : 2048 ≤ length p
-  pub long3 : 2048 ≤ length a
-  pub long4 : 2048 ≤ length d
-  pub long5 : 1536 ≤ length g
+pub record Full (room : Room) : Type 0 where
+  pub long1 : 256 ≤ length room.routes.now
+  pub long2 : 2048 ≤ length room.positions.now
+  pub long3 : 2048 ≤ length room.arrivals.now
+  pub long4 : 2048 ≤ length room.departures.now
+  pub long5 : 1536 ≤ length room.walks.now
 
 -- a feed of the right length, and tables to read it into
-pub record BodyRoom (f h p a d g : List ℕ) : Type 0 where
+pub record BodyRoom (f : List ℕ) (room : Room) : Type 0 where
   pub feed≥ : 13 ≤ length f
   pub feed≤ : length f < 32768
-  pub full : Full h p a d g
+  pub full : Full room

@@ -20,7 +20,7 @@ use Rattle.paper.specs.Rows.{label, row_in, next_row, row_of}
 use Rattle.paper.specs.Reply.{labels_table}
 use Rattle.paper.specs.declared.Question.{Question}
 use Rattle.paper.proofs.Steps.{label_read, label_out}
-use Rattle.rounds.specs.Round.{settled, filled}
+use Rattle.rounds.specs.Round.{settled}
 use Rattle.paper.proofs.Earliest.{length_row, label_zero, row_start}
 
 module _ (T : Tables) (q : Question) where
@@ -55,18 +55,22 @@ in_row i P h f =
 
 -- ---- the full size as the mark
 
+-- a list whose full size is the mark
+abbrev pub filled : List ℕ → List ℕ
+filled d = over (replicate 2304 mark) d
+
+marks_long : length (replicate 2304 mark) ≡ 2304
+marks_long = length-replicate 2304 mark
+
 module _ (d : List ℕ) (room : 2304 ≤ length d) where
   pub filled_long : length (filled d) ≡ length d
-  unfolding filled
-  filled_long = written-length d 0 (λ _. mark) 2304 room
+  filled_long = length_over (replicate 2304 mark) d (omega (arith, marks_long))
 
   filled_at : (i : ℕ) → i < 2304 → get_or (filled d) i 0 ≡ mark
-  unfolding filled
-  filled_at i h = written_at d 0 (λ _. mark) 2304 room i i 0 (omega arith) h
+  filled_at i h = get_d_over (replicate 2304 mark) d i 0 (omega (arith, marks_long)) ∙ get_or-replicate 2304 i mark 0 h
 
   filled_past : (i : ℕ) → 2304 ≤ i → get_or (filled d) i 0 ≡ get_or d i 0
-  unfolding filled
-  filled_past i h = written_after d 0 (λ _. mark) 2304 room i 0 h
+  filled_past i h = get_d-over_past (replicate 2304 mark) d i 0 (omega (arith, marks_long))
 
 module _ (T : Tables) (q : Question) (d₀ : List ℕ) (few : T.stops ≤ 256) (room : 2304 ≤ length d₀) where
   -- ---- row 0
@@ -196,15 +200,13 @@ module _ (T : Tables) (q : Question) (d₀ : List ℕ) (few : T.stops ≤ 256) (
 
     -- ---- the whole table
 
-    pub rows_filled : {d' : List ℕ} → d' ≡ filled d → d' ≡ over (replicate 2304 mark) d₀
+    pub rows_filled : {d' : List ℕ} → d' ≡ filled d → d' ≡ filled d₀
     rows_filled e =
         let r : 2304 ≤ length d = omega (arith, rows.long) in
-        let n : length (replicate 2304 mark) ≡ 2304 = length-replicate 2304 mark in
-        e ∙ ext_get_or 0 (filled d) (over (replicate 2304 mark) d₀)
-        (filled_long d r ∙ rows.long ∙ sym (length_over (replicate 2304 mark) d₀ (omega arith)))
+        e ∙ ext_get_or 0 (filled d) (filled d₀) (filled_long d r ∙ rows.long ∙ sym (filled_long d₀ room))
         (λ i _. by_lt i 2304
-        (λ l. filled_at d r i l ∙ sym (get_d_over (replicate 2304 mark) d₀ i 0 (omega arith) ∙ get_or-replicate 2304 i mark 0 l))
-        (λ l. filled_past d r i l ∙ rows.past i l ∙ sym (get_d-over_past (replicate 2304 mark) d₀ i 0 (omega arith))))
+        (λ l. filled_at d r i l ∙ sym (filled_at d₀ room i l))
+        (λ l. filled_past d r i l ∙ rows.past i l ∙ sym (filled_past d₀ room i l)))
 
   table_long : length (labels_table T q) ≡ 2304
   unfolding labels_table

@@ -17,10 +17,10 @@ use Rattle.paper.specs.Timetable.{Tables, route_of, walk_from, walk_to, walk_sec
 use Rattle.paper.specs.Rows.{label, row_in, ride_on, ride_to, rides_from, walk_in, next_row}
 use Rattle.paper.specs.Work.{round_cost, improves}
 use Rattle.paper.proofs.Steps.{label_read, label_rides, label_next}
-use Rattle.scan.specs.Look.{routes_in, ride_below, looks_below, Ridden}
+use Rattle.scan.specs.Look.{ride_below, looks_below, Ridden}
 use Rattle.scan.specs.Walk.{walk_below, Walked}
 use Rattle.rounds.specs.Round.{brought, bettered, RowWritten, RoundAsked, RoundDone}
-use Rattle.scan.proofs.Fitting.{same_route, rideable}
+use Rattle.scan.proofs.Fitting.{rideable}
 use Rattle.scan.proofs.Riding.{looks_le}
 
 -- what is lowered starts as marks
@@ -34,8 +34,8 @@ lowered_at f s most h =
 lowered_long : (f : ℕ → ℕ) → length (lower_by f marks) ≡ 256
 lowered_long f = length-lower_by f marks ∙ length-replicate 256 mark
 
-pub reach_size : {T : Tables} {count : ℕ} {row reach : List ℕ} {work : ℕ} → Ridden T count row marks reach work → length reach ≡ 256
-reach_size {T} {count} {row} ri = ap length ri.reach_is ∙ lowered_long (ride_below T count row)
+pub reach_size : {T : Tables} {row reach : List ℕ} {work : ℕ} → Ridden T row marks reach work → length reach ≡ 256
+reach_size {T} {row} ri = ap length ri.reach_is ∙ lowered_long (ride_below T T.routes row)
 
 less_same : (b o : ℕ) → ltb b o ≡ ltb (min o b) o
 less_same b o =
@@ -45,10 +45,10 @@ less_same b o =
 
 -- the work of a round is small
 pub cost_few : (T : Tables) → Fit T → (row : List ℕ) → length row ≡ T.stops → round_cost T row ≤ 40000
-unfolding round_cost looks_below route_of
+unfolding round_cost looks_below
 cost_few T fit row e =
     let pre = rideable T fit (length row) e in
-    let h = looks_le (routes_in T.t1 T.t2 T.t3 T.t4) T.routes row marks (rw length-replicate pre) T.routes (omega arith) in
+    let h = looks_le T row marks (rw length-replicate pre) T.routes (omega arith) in
     omega (arith, fit.sound.routes≤, fit.sound.walks≤)
 
 module _ (T : Tables) (labels₀ : List ℕ) (k : ℕ) (asked : RoundAsked T labels₀ k) where
@@ -66,12 +66,12 @@ module _ (T : Tables) (labels₀ : List ℕ) (k : ℕ) (asked : RoundAsked T lab
       sym (get_d_part labels₀ (k * 256) (k * 256 + T.stops) s 0 (omega arith))
       ∙ sym (label_read (row_in labels₀ k T.stops) s (rw row_long h))
 
-  rides_same : (s : ℕ) → ride_below (routes_in T.t1 T.t2 T.t3 T.t4) T.routes row s ≡ ride_to T row s
+  rides_same : (s : ℕ) → ride_below T T.routes row s ≡ ride_to T row s
   unfolding ride_below ride_to
-  rides_same s = min_below_same T.routes _ _ (λ r l. ap (λ R. ride_on R row s) (same_route T r))
+  rides_same s = refl
 
-  looks_same : looks_below (routes_in T.t1 T.t2 T.t3 T.t4) T.routes row + T.walks ≡ round_cost T row
-  unfolding looks_below round_cost route_of
+  looks_same : looks_below T T.routes row + T.walks ≡ round_cost T row
+  unfolding looks_below round_cost
   looks_same = refl
 
   ride_mark : (s : ℕ) → ride_to T row s ≤ mark
@@ -79,8 +79,8 @@ module _ (T : Tables) (labels₀ : List ℕ) (k : ℕ) (asked : RoundAsked T lab
   ride_mark s = min_below-mark T.routes (λ r. ride_on (route_of T r) row s)
 
   module _ {reach next : List ℕ} {rides steps : ℕ}
-      (ri : Ridden (routes_in T.t1 T.t2 T.t3 T.t4) T.routes row marks reach rides)
-      (wa : Walked T.t5 T.walks reach marks next steps) where
+      (ri : Ridden T row marks reach rides)
+      (wa : Walked T reach marks next steps) where
     stop_few : (s : ℕ) → s < T.stops → s < 256
     stop_few s h = omega (arith, asked.fit.sound.stops≤)
 

@@ -2,6 +2,7 @@
 use mathlib.Core.Path.{◌≡◌, refl, sym, ap, ◌∙◌}
 use mathlib.Core.Bool.{Bool, true, false, not, ◌||◌}
 use mathlib.Core.List.{List}
+use Rattle.std.specs.Prelude.{Ok, Err}
 use Prim.Native.Nat.{ℕ, ◌+◌, ◌-◌, ◌≤◌, ◌<◌}
 use native.Mathlib.Numerals.{add-one}
 use native.Mathlib.Omega.{arith}
@@ -11,18 +12,18 @@ use lib.ListN.{length, set}
 use Rattle.laws.specs.Below.{sum_below}
 use Rattle.laws.proofs.Tests.{by_test, by_lt, both_ways}
 use Rattle.laws.proofs.Below.{sum_below_next}
+use Rattle.paper.specs.Rules.{refusal}
 use Rattle.paper.specs.Timetable.{Tables}
 use Rattle.paper.specs.Rows.{row_in, row_of}
 use Rattle.paper.specs.Work.{round_cost, improves, rounds_run, work_to, work_of}
 use Rattle.paper.specs.Reply.{question_broken}
 use Rattle.paper.specs.declared.Question.{Question}
 use Rattle.paper.proofs.Rounds.{stopped, work_mono, passing_is, rounds_reach, rounds_end, rounds_all}
-use Rattle.rounds.specs.Round.{RoundAsked, RoundDone, Settling, settled, filled}
+use Rattle.rounds.specs.Round.{RoundAsked, RoundDone, Settling, settled}
 use Rattle.rounds.specs.Run.{Asked, rounds_of, labels_left, Ran}
-use Rattle.rounds.specs.declared.Rounds.{Rounds}
 use Rattle.scan.proofs.Riding.{sum_most}
 use Rattle.rounds.proofs.Rounding.{cost_few}
-use Rattle.rounds.proofs.Labels.{Rows, filled_long, rows_start, row_is, rows_step, rows_settled, rows_filled, rows_end}
+use Rattle.rounds.proofs.Labels.{Rows, filled, filled_long, rows_start, row_is, rows_step, rows_settled, rows_filled, rows_end}
 use Rattle.laws.proofs.Checking.{or_none}
 use Rattle.paper.proofs.Earliest.{length_row}
 
@@ -97,7 +98,7 @@ module _ (T : Tables) (q : Question) (labels₀ : List ℕ) (asked : Asked T q l
     start_in = omega (arith, ap length e, filled_long labels₀ asked.room, asked.room, few, start<)
 
   -- the work is within the budget, and all rows are there
-  ended : {labels : List ℕ} {work : ℕ} → work ≡ work_of T q → work ≤ q.budget → Rows T q q.limit labels₀ labels → Ran T q labels₀ labels (Rounds.Within work)
+  ended : {labels : List ℕ} {work : ℕ} → work ≡ work_of T q → work ≤ q.budget → Rows T q q.limit labels₀ labels → Ran T q labels₀ labels (Ok work)
   unfolding rounds_of labels_left
   ended e h rows =
       let t = le-ltb q.budget (work_of T q) (omega arith) in
@@ -108,7 +109,7 @@ module _ (T : Tables) (q : Question) (labels₀ : List ℕ) (asked : Asked T q l
     labels_long = ru.rows.long
 
     -- the ride limit is done
-    pub running_end : q.limit ≤ k → Ran T q labels₀ labels (Rounds.Within work)
+    pub running_end : q.limit ≤ k → Ran T q labels₀ labels (Ok work)
     unfolding work_of
     running_end h =
         let z : k ≡ q.limit = omega (arith, ru.below) in
@@ -144,17 +145,14 @@ module _ (T : Tables) (q : Question) (labels₀ : List ℕ) (asked : Asked T q l
         pub still_room : 2304 ≤ length labels'
         still_room = omega (arith, next_long, asked.room)
 
-        pub settling : {limit : ℕ} → k + 1 ≤ limit → limit ≤ q.limit → Settling (length labels') (k + 1) limit
-        settling l m = record { room = still_room; below = l; few = omega (arith, limit≤) }
-
-        pub passed_long : {labels'' : List ℕ} → labels'' ≡ filled labels' → length labels'' ≡ length labels₀
-        passed_long e = ap length e ∙ filled_long labels' still_room ∙ next_long
+        pub settling : Settling (length labels') (k + 1) q.limit
+        settling = record { room = still_room; below = omega arith; few = limit≤ }
 
         improved_is : improved ≡ improves T (row_of T q k)
         improved_is = rw row at done.improved_is
 
         -- the work passes the budget
-        pub run_passed : {labels'' : List ℕ} → q.budget < work + w → labels'' ≡ filled labels' → Ran T q labels₀ labels'' (Rounds.Passed (k + 1))
+        pub run_passed : {labels'' : List ℕ} → q.budget < work + w → labels'' ≡ filled labels' → Ran T q labels₀ labels'' (Err (refusal 13 (k + 1)))
         unfolding rounds_of labels_left work_of
         run_passed b e =
             let r = rounds_reach T q k h ru.improving in
@@ -164,8 +162,8 @@ module _ (T : Tables) (q : Question) (labels₀ : List ℕ) (asked : Asked T q l
             let z = passing_is T q (k + 1) (omega arith) p (λ j l. omega (arith, work_mono T q j k (omega arith), ru.work_is, ru.within)) in
             record { answer_is = rw (t, z); labels_are = rw t (rows_filled T q labels₀ few asked.room rows_next e) }
 
-        -- the round improved no stop, and the rows up to some limit equal it
-        module _ {limit : ℕ} (l : k + 1 ≤ limit) (m : limit ≤ q.limit) {labels'' : List ℕ} (i : improved ≡ false) (e : labels'' ≡ settled labels' (k + 1) limit) where
+        -- the round improved no stop, and the rows up to the limit equal it
+        module _ {labels'' : List ℕ} (i : improved ≡ false) (e : labels'' ≡ settled labels' (k + 1) q.limit) where
           none : improves T (row_of T q k) ≡ false
           none = sym improved_is ∙ i
 
@@ -174,17 +172,14 @@ module _ (T : Tables) (q : Question) (labels₀ : List ℕ) (asked : Asked T q l
               let one : row_of T q (k + 1) ≡ row_of T q k = ap (row_of T q) (omega arith) ∙ stopped T q k 1 none in
               ap (row_of T q) (omega arith) ∙ stopped T q k (j - k) none ∙ sym one
 
-          rows_last : Rows T q limit labels₀ labels''
-          rows_last = rows_settled T q labels₀ few asked.room rows_next l (omega (arith, limit≤)) same e
+          rows_last : Rows T q q.limit labels₀ labels''
+          rows_last = rows_settled T q labels₀ few asked.room rows_next (omega arith) limit≤ same e
 
-          pub stopped_long : length labels'' ≡ length labels₀
-          stopped_long = rows_last.long
-
-          pub run_stopped : limit ≡ q.limit → work + w ≤ q.budget → Ran T q labels₀ labels'' (Rounds.Within (work + w))
+          pub run_stopped : work + w ≤ q.budget → Ran T q labels₀ labels'' (Ok (work + w))
           unfolding work_of
-          run_stopped all b =
+          run_stopped b =
               let z : rounds_run T q ≡ k + 1 = rounds_end T q k h ru.improving none ∙ sym (add-one k) in
-              ended (work_next ∙ ap (work_to T q) (sym z)) b (rw all at rows_last)
+              ended (work_next ∙ ap (work_to T q) (sym z)) b rows_last
 
         pub running_step : work + w ≤ q.budget → improved ≡ true → Running T q labels₀ labels' (work + w) (k + 1)
         running_step b i =

@@ -1,40 +1,21 @@
 -- What `fill`, `write_row` and `settle` keep, element by element.
-use mathlib.Core.Path.{◌≡◌, refl, ap, ◌∙◌}
+use mathlib.Core.Path.{◌≡◌, refl, sym, ap, ◌∙◌}
 use mathlib.Core.Bool.{Bool, true, false}
 use mathlib.Core.List.{List}
 use Prim.Native.Nat.{ℕ, ◌+◌, ◌*◌, ◌-◌, ◌%◌, ◌≤◌, ◌<◌, min}
-use native.Mathlib.Nat.{mod-eq_of_lt, mod-eq-sub-mod}
+use native.Mathlib.Nat.{mod-eq_of_lt, mul-add-mod_self_right}
 use native.Mathlib.Omega.{arith}
 use borrow.Author.Tests.{lt-ltb, le-ltb}
 use lib.Dec.{ltb}
 use lib.ListN.{length, get_or, set}
-use Rattle.laws.specs.Below.{mark, any_below}
+use lib.Seq.{ext_get_or}
+use Rattle.std.specs.List.{CopiedTo, SameBelow, SameFrom}
+use Rattle.laws.specs.Below.{any_below}
 use Rattle.laws.specs.Lists.{written}
 use Rattle.laws.proofs.Tests.{by_test, by_lt}
 use Rattle.laws.proofs.Below.{any_below_next}
-use Rattle.laws.proofs.Lists.{written_none, written_store, written_end, written-length, written_before, written_at}
-use Rattle.rounds.specs.Round.{Follows, brought, bettered, RowWritten, Settling, settled, filled}
-
--- ---- fill
-
-pub record Filling (labels₀ labels : List ℕ) (i : ℕ) : Type 0 where
-  pub below : i ≤ 2304
-  pub labels_are : labels ≡ written labels₀ 0 (λ _. mark) i
-
-module _ (labels₀ : List ℕ) (room : 2304 ≤ length labels₀) where
-  pub filling_start : Filling labels₀ labels₀ 0
-  filling_start = record { below = omega arith; labels_are = written_none labels₀ 0 (λ _. mark) }
-
-  module _ {labels : List ℕ} {i : ℕ} (f : Filling labels₀ labels i) where
-    pub filling_long : length labels ≡ length labels₀
-    filling_long = ap length f.labels_are ∙ written-length labels₀ 0 (λ _. mark) i (omega (arith, f.below))
-
-    pub filling_step : i < 2304 → Filling labels₀ (set labels i mark) (i + 1)
-    filling_step h = record { below = omega arith; labels_are = written_store labels₀ 0 (λ _. mark) i f.labels_are (omega arith) refl (omega arith) }
-
-    pub filling_end : 2304 ≤ i → labels ≡ filled labels₀
-    unfolding filled
-    filling_end h = written_end labels₀ 0 (λ _. mark) i 2304 f.labels_are (omega (arith, f.below))
+use Rattle.laws.proofs.Lists.{written_none, written_store, written-length, written_before, written_at, written_after}
+use Rattle.rounds.specs.Round.{Follows, brought, bettered, RowWritten, Settling, settled}
 
 -- ---- write_row
 
@@ -57,11 +38,8 @@ module _ (labels₀ : List ℕ) (k stops : ℕ) (reach next : List ℕ) where
     fits : k * 256 + 256 + s ≤ length labels₀
     fits = omega (arith, w.below, pre.room, pre.few, pre.stops≤)
 
-    pub writing_long : length labels ≡ length labels₀
-    writing_long = ap length w.labels_are ∙ written-length labels₀ (k * 256 + 256) (bettered labels₀ k reach next) s fits
-
     -- row k stands before what was written
-    pub old_is : s < stops → get_or labels (k * 256 + s) 0 ≡ get_or labels₀ (k * 256 + s) 0
+    old_is : s < stops → get_or labels (k * 256 + s) 0 ≡ get_or labels₀ (k * 256 + s) 0
     old_is h =
         ap (λ (l : List ℕ). get_or l (k * 256 + s) 0) w.labels_are
         ∙ written_before labels₀ (k * 256 + 256) (bettered labels₀ k reach next) s fits (k * 256 + s) 0 (omega (arith, pre.stops≤))
@@ -92,41 +70,68 @@ module _ (labels₀ : List ℕ) (k stops : ℕ) (reach next : List ℕ) where
 
 -- ---- settle
 
+-- a run with a block written after it
+written_block : (d : List ℕ) (at : ℕ) (f : ℕ → ℕ) (j n z : ℕ) {l l' : List ℕ} → at + (j + n) ≤ length d → l ≡ written d at f j → length l' ≡ length l
+    → ((i : ℕ) → i < at + j → get_or l' i z ≡ get_or l i z) → ((i : ℕ) → i < n → get_or l' (at + j + i) z ≡ f (j + i))
+    → ((i : ℕ) → at + j + n ≤ i → get_or l' i z ≡ get_or l i z) → l' ≡ written d at f (j + n)
+written_block d at f j n z {l} {l'} fits e long before block after =
+    let was : at + j ≤ length d = omega arith in
+    let same : (i : ℕ) → get_or l i z ≡ get_or (written d at f j) i z = λ i. ap (λ (xs : List ℕ). get_or xs i z) e in
+    ext_get_or z l' (written d at f (j + n)) (long ∙ ap length e ∙ written-length d at f j was ∙ sym (written-length d at f (j + n) fits))
+    (λ i _. by_lt i at
+    (λ h. before i (omega arith) ∙ same i ∙ written_before d at f j was i z h ∙ sym (written_before d at f (j + n) fits i z h))
+    (λ h. by_lt i (at + j)
+    (λ m. before i m ∙ same i ∙ written_at d at f j was i (i - at) z (omega arith) (omega arith) ∙ sym (written_at d at f (j + n) fits i (i - at) z (omega arith) (omega arith)))
+    (λ m. by_lt i (at + j + n)
+    (λ o. let p : i ≡ at + j + (i - (at + j)) = omega arith in
+    ap (λ (x : ℕ). get_or l' x z) p ∙ block (i - (at + j)) (omega arith) ∙ sym (written_at d at f (j + n) fits i (j + (i - (at + j))) z (omega arith) (omega arith)))
+    (λ o. after i o ∙ same i ∙ written_after d at f j was i z (omega arith) ∙ sym (written_after d at f (j + n) fits i z (omega arith))))))
+
 -- element i after row k + 1's first
 pub again : List ℕ → ℕ → ℕ → ℕ
 again labels k i = get_or labels (k * 256 + i % 256) 0
 
-pub record Repeating (labels₀ labels : List ℕ) (k limit i : ℕ) : Type 0 where
-  pub below : i ≤ (limit - k) * 256
-  pub labels_are : labels ≡ written labels₀ (k * 256 + 256) (again labels₀ k) i
+-- the rows after row k, up to row j, equal it
+pub record Repeating (labels₀ labels : List ℕ) (k limit j : ℕ) : Type 0 where
+  pub from : k ≤ j
+  pub below : j ≤ limit
+  pub labels_are : labels ≡ written labels₀ (k * 256 + 256) (again labels₀ k) ((j - k) * 256)
 
 module _ (labels₀ : List ℕ) (k limit : ℕ) (pre : Settling (length labels₀) k limit) where
-  pub repeating_start : Repeating labels₀ labels₀ k limit 0
-  repeating_start = record { below = omega arith; labels_are = written_none labels₀ (k * 256 + 256) (again labels₀ k) }
+  pub repeating_start : Repeating labels₀ labels₀ k limit k
+  repeating_start =
+      let z : (k - k) * 256 ≡ 0 = omega arith in
+      record { from = omega arith; below = pre.below; labels_are = rw z (written_none labels₀ (k * 256 + 256) (again labels₀ k)) }
 
-  module _ {labels : List ℕ} {i : ℕ} (r : Repeating labels₀ labels k limit i) where
-    fits_too : k * 256 + 256 + i ≤ length labels₀
-    fits_too = omega (arith, r.below, pre.room, pre.below, pre.few)
+  module _ {labels : List ℕ} {j : ℕ} (r : Repeating labels₀ labels k limit j) where
+    fits_too : {n : ℕ} → n ≤ limit - k → k * 256 + 256 + n * 256 ≤ length labels₀
+    fits_too h = omega (arith, pre.room, pre.below, pre.few)
 
-    pub repeating_long : length labels ≡ length labels₀
-    repeating_long = ap length r.labels_are ∙ written-length labels₀ (k * 256 + 256) (again labels₀ k) i fits_too
-
-    -- a row before stands already
-    copied : get_or labels (k * 256 + i) 0 ≡ again labels₀ k i
-    unfolding again
-    copied =
+    -- row k stands before what was written
+    copied : (i : ℕ) → i < 256 → get_or labels (k * 256 + i) 0 ≡ get_or labels₀ (k * 256 + i) 0
+    copied i h =
         ap (λ (l : List ℕ). get_or l (k * 256 + i) 0) r.labels_are
-        ∙ by_lt i 256
-        (λ h. written_before labels₀ (k * 256 + 256) (again labels₀ k) i fits_too (k * 256 + i) 0 (omega arith) ∙ rw (mod-eq_of_lt h))
-        (λ h. written_at labels₀ (k * 256 + 256) (again labels₀ k) i fits_too (k * 256 + i) (i - 256) 0 (omega arith) (omega arith) ∙ rw (mod-eq-sub-mod h))
+        ∙ written_before labels₀ (k * 256 + 256) (again labels₀ k) ((j - k) * 256) (fits_too (omega (arith, r.below))) (k * 256 + i) 0 (omega arith)
 
-    pub repeating_step : {v : ℕ} → i < (limit - k) * 256 → v ≡ get_or labels (k * 256 + i) 0 → Repeating labels₀ (set labels (k * 256 + 256 + i) v) k limit (i + 1)
-    repeating_step h e =
+    pub repeating_step : {labels' : List ℕ} {n : ℕ} → j < limit → n ≡ 256 → length labels' ≡ length labels
+        → CopiedTo labels labels' (k * 256) (j * 256 + 256) n → SameBelow labels labels' (j * 256 + 256) → SameFrom labels labels' (j * 256 + 256 + n)
+        → Repeating labels₀ labels' k limit (j + 1)
+    unfolding again
+    repeating_step h size long row before after =
+        let more : (j + 1 - k) * 256 ≡ (j - k) * 256 + 256 = omega (arith, r.from) in
         record {
+          from = omega (arith, r.from);
           below = omega arith;
-          labels_are = written_store labels₀ (k * 256 + 256) (again labels₀ k) i r.labels_are refl (e ∙ copied) (omega (arith, pre.room, pre.below, pre.few));
+          labels_are = rw more
+              (written_block labels₀ (k * 256 + 256) (again labels₀ k) ((j - k) * 256) 256 0 (omega (arith, pre.room, pre.below, pre.few, r.from)) r.labels_are long
+              (λ i l. before i 0 (omega (arith, r.from)))
+              (λ i l. let m : ((j - k) * 256 + i) % 256 ≡ i = mul-add-mod_self_right (j - k) 256 i ∙ mod-eq_of_lt l in
+              row (k * 256 + 256 + (j - k) * 256 + i) 0 (omega (arith, r.from)) (omega (arith, r.from))
+              ∙ ap (λ (x : ℕ). get_or labels (k * 256 + x) 0) (omega (arith, r.from))
+              ∙ copied i l ∙ rw m)
+              (λ i l. after i 0 (omega (arith, r.from))));
         }
 
-    pub repeating_end : (limit - k) * 256 ≤ i → labels ≡ settled labels₀ k limit
+    pub repeating_end : limit ≤ j → labels ≡ settled labels₀ k limit
     unfolding settled again
-    repeating_end h = written_end labels₀ (k * 256 + 256) (again labels₀ k) i ((limit - k) * 256) r.labels_are (omega (arith, r.below))
+    repeating_end h = let z : j ≡ limit = omega (arith, r.below) in rw z at r.labels_are

@@ -1,6 +1,6 @@
 -- One round: row k + 1 made of row k in the lent labels.
 use Rattle.std.specs.Prelude.{◌≡◌, Bool, List, ℕ, ◌+◌, ◌*◌, ◌-◌, ◌%◌, ◌≤◌, ◌<◌, min, ltb, length, get_or}
-use Rattle.laws.specs.Below.{mark, any_below}
+use Rattle.laws.specs.Below.{any_below}
 use Rattle.laws.specs.Lists.{written}
 use Rattle.paper.specs.Timetable.{Tables}
 use Rattle.paper.specs.Rules.{Fit}
@@ -46,7 +46,3 @@ pub record Settling (labels k limit : ℕ) : Type 0 where
 -- the rows after row k, up to the limit, equal it
 unfoldable pub settled : List ℕ → ℕ → ℕ → List ℕ
 settled labels k limit = written labels (k * 256 + 256) (λ i. get_or labels (k * 256 + i % 256) 0) ((limit - k) * 256)
-
--- the full size is the mark
-unfoldable pub filled : List ℕ → List ℕ
-filled labels = written labels 0 (λ _. mark) 2304

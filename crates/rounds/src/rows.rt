@@ -1,14 +1,10 @@
 // The labels' rows: filled with the mark, written after a round, and settled after the last.
-ghost use Rattle.std.specs.Prelude.{◌≡◌, ◌≤◌, min, length};
-ghost use Rattle.rounds.specs.Round.{Follows, RowWritten, Settling, settled, filled};
+ghost use Rattle.std.specs.Prelude.{◌≡◌, ◌≤◌, length, replicate};
+ghost use Rattle.laws.specs.Below.{mark};
+ghost use Rattle.laws.specs.Lists.{over};
+ghost use Rattle.rounds.specs.Round.{Follows, RowWritten, Settling, settled};
 
 use paper::MARK;
-
-pub fn smaller(a: u32, b: u32) -> u32
-    ensures { result ≡ min a b }
-{
-    if b < a { b } else { a }
-}
 
 // Row k + 1: a stop keeps its label, or takes what this round brings. Says whether a stop improved.
 pub fn write_row(labels: &mut [u32], k: u32, stops: u32, reach: &[u32], next: &[u32]) -> bool
@@ -18,29 +14,23 @@ pub fn write_row(labels: &mut [u32], k: u32, stops: u32, reach: &[u32], next: &[
     let base = k as usize * 256;
     let end = stops as usize;
     let mut improved = false;
-    let mut s: usize = 0;
-    while s < end {
+    for s in 0..end {
         let old = labels[base + s];
-        let new = smaller(reach[s], next[s]);
-        labels[base + 256 + s] = smaller(old, new);
+        let new = reach[s].min(next[s]);
+        labels[base + 256 + s] = old.min(new);
         if new < old {
             improved = true;
         }
-        s += 1;
     }
     improved
 }
 
-// The labels' full size is the mark.
+// The labels' full size is the mark; what lies beyond stays.
 pub fn fill(labels: &mut [u32])
     requires { 2304 ≤ length labels.old }
-    ensures { labels.new ≡ filled labels.old }
+    ensures { labels.new ≡ over (replicate 2304 mark) labels.old }
 {
-    let mut i: usize = 0;
-    while i < 2304 {
-        labels[i] = MARK;
-        i += 1;
-    }
+    labels[..2304].fill(MARK);
 }
 
 // The rows after row k, up to the limit, equal it.
@@ -48,11 +38,9 @@ pub fn settle(labels: &mut [u32], k: u32, limit: u32)
     requires { Settling (length labels.old) k limit }
     ensures { labels.new ≡ settled labels.old k limit }
 {
-    let base = k as usize * 256;
-    let end = (limit as usize - k as usize) * 256;
-    let mut i: usize = 0;
-    while i < end {
-        labels[base + 256 + i] = labels[base + i];
-        i += 1;
+    let row = k as usize * 256;
+    for j in k..limit {
+        let next = j as usize * 256 + 256;
+        labels.copy_within(row..row + 256, next);
     }
 }

@@ -1,15 +1,13 @@
--- Document 01's networks, each in tables of full size, may be asked; and what `put` keeps.
-use mathlib.Core.Path.{◌≡◌, refl, ap, ◌∙◌}
+-- Document 01's networks, each in tables of full size, may be asked.
+use Rattle.std.specs.Prelude.{None}
+use mathlib.Core.Path.{◌≡◌, refl}
 use mathlib.Core.List.{List}
-use mathlib.Core.Option.{none}
-use Prim.Native.Nat.{ℕ, ◌+◌, ◌≤◌, ◌<◌}
-use native.Mathlib.Numerals.{add-one}
+use Prim.Native.Nat.{ℕ, ◌≤◌}
 use native.Mathlib.Omega.{arith}
-use lib.ListN.{length, get_or, set, take, replicate, length-replicate}
-use lib.Seq.{length-take-le, take-suc, take_all}
+use lib.ListN.{length, replicate, length-replicate}
 use borrow.Author.Tests.{le-ltb}
 use Rattle.laws.specs.Lists.{over}
-use Rattle.laws.proofs.Lists.{length_over, over_store}
+use Rattle.laws.proofs.Lists.{length_over}
 use Rattle.paper.specs.Timetable.{Tables}
 use Rattle.paper.specs.Lines.{filled}
 use Rattle.paper.specs.Rules.{fault_of, Fit}
@@ -26,7 +24,7 @@ full xs size h =
     omega (arith, length_over xs zeros (omega arith))
 
 -- what is known of a network's own lists
-fit_of : (T : Tables) → fault_of (filled T) ≡ none → length T.t1 ≤ 256 → length T.t2 ≤ 2048 → length T.t3 ≤ 2048 → length T.t4 ≤ 2048 → length T.t5 ≤ 1536 → Fit (filled T)
+fit_of : (T : Tables) → fault_of (filled T) ≡ None → length T.t1 ≤ 256 → length T.t2 ≤ 2048 → length T.t3 ≤ 2048 → length T.t4 ≤ 2048 → length T.t5 ≤ 1536 → Fit (filled T)
 fit_of T e a b c d w =
     record {
       sound = sound_of (filled T) e;
@@ -64,39 +62,3 @@ halt_askable = record { fit = halt_fit; good = refl }
 pub back_askable : Askable (filled back_to_start) (zero_to_two 100 100)
 unfolding opened
 back_askable = record { fit = back_fit; good = refl }
-
--- ---- put
-
-pub record Putting (values table₀ table : List ℕ) (i : ℕ) : Type 0 where
-  pub below : i ≤ length values
-  pub table_is : table ≡ over (take i values) table₀
-
-module _ (values table₀ : List ℕ) (room : length values ≤ length table₀) where
-  pub putting_start : Putting values table₀ table₀ 0
-  putting_start = record { below = omega arith; table_is = refl }
-
-  module _ {table : List ℕ} {i : ℕ} (p : Putting values table₀ table i) where
-    head : length (take i values) ≡ i
-    head = length-take-le i values p.below
-
-    pub putting_long : length table ≡ length table₀
-    putting_long = ap length p.table_is ∙ length_over (take i values) table₀ (omega (arith, head, p.below))
-
-    pub putting_step : i < length values → Putting values table₀ (set table i (get_or values i 0)) (i + 1)
-    putting_step h =
-        record {
-          below = omega arith;
-          table_is = ap (λ (l : List ℕ). set l i (get_or values i 0)) p.table_is
-              ∙ over_store (take i values) table₀ (get_or values i 0) i head (omega arith)
-              ∙ rw (add-one, take-suc values i 0 h);
-        }
-
-    pub putting_end : length values ≤ i → table ≡ over values table₀
-    putting_end h = p.table_is ∙ rw (take_all i values h)
-
--- the tables that `put` has made are the network's
-pub askable_as :
-    (N : Tables) {q : Question} {t1 t2 t3 t4 t5 : List ℕ} → Askable (filled N) q
-    → t1 ≡ over N.t1 (replicate 256 0) → t2 ≡ over N.t2 (replicate 2048 0) → t3 ≡ over N.t3 (replicate 2048 0) → t4 ≡ over N.t4 (replicate 2048 0) → t5 ≡ over N.t5 (replicate 1536 0)
-    → Askable (record { stops = N.stops; routes = N.routes; walks = N.walks; t1 = t1; t2 = t2; t3 = t3; t4 = t4; t5 = t5 }) q
-askable_as N a e1 e2 e3 e4 e5 = rw (e1, e2, e3, e4, e5) a

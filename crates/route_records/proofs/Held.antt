@@ -1,55 +1,50 @@
 -- A table that is filled from the front, over several calls.
-use mathlib.Core.Path.{◌≡◌, refl, sym, ap, ◌∙◌}
-use mathlib.Core.List.{List, [], ◌∷◌, ◌++◌}
-use Prim.Native.Nat.{ℕ, ◌+◌, ◌≤◌, ◌<◌}
-use native.Mathlib.Numerals.{add-one, add-two, add-three}
+use mathlib.Core.Path.{◌≡◌, refl, sym, ap, ◌∙◌, subst}
+use mathlib.Core.List.{List, ◌++◌}
+use Prim.Native.Nat.{ℕ, zero, suc, ◌+◌, ◌-◌, ◌≤◌}
+use native.Mathlib.Nat.{add-zero, add-suc}
 use native.Mathlib.Omega.{arith}
-use lib.ListN.{length, take, set, length-append, length-set}
+use lib.ListN.{length, take, length-append}
 use lib.Seq.{length-take-le}
+use Rattle.laws.specs.Below.{iterate}
 use Rattle.laws.specs.Lists.{over, tab, written}
-use Rattle.laws.proofs.Lists.{length_over, over-take, take-over, over-over, over_sets, written_none, written_store, written_end, written_over}
+use Rattle.laws.proofs.Lists.{length_over, over-take, take-over, over-over, written_end, written_over}
 use Rattle.route_records.specs.Keep.{Holds}
 
-pub holds_start : (d : List ℕ) (k : ℕ) → k ≤ length d → Holds (take k d) k d d
-holds_start d k h = record { long = length-take-le k d h; is = sym (over-take d k h); kept = refl }
+-- n elements were put from k on
+pub put_all : (d₀ : List ℕ) (k n : ℕ) (g : ℕ → ℕ) {d : List ℕ} {i : ℕ} → k + n ≤ length d₀ → d ≡ written d₀ k g i → i ≡ n
+    → d ≡ over (take k d₀ ++ tab n g) d₀
+put_all d₀ k n g {i = i} room h t = written_end d₀ k g i n h t ∙ written_over d₀ k g n (omega arith)
 
-pub holds_push : (d d' xs : List ℕ) (k n : ℕ) → k + n ≤ length d → length xs ≡ n → d' ≡ over (take k d ++ xs) d → Holds (take k d ++ xs) (k + n) d d'
-holds_push d d' xs k n h l e =
-    let m : length (take k d ++ xs) ≡ k + n = omega (arith, length-append (take k d) xs, length-take-le k d (omega arith)) in
-    record { long = m; is = e; kept = ap length e ∙ length_over (take k d ++ xs) d (omega arith) }
+module _ {d : List ℕ} {k n : ℕ} where
+  pub holds_front : k ≤ n → k ≤ length d → Holds k n (take k d) d d
+  holds_front m h = let l = length-take-le k d h in record { grown = omega (arith, l); most = omega (arith, l); is = sym (over-take d k h) }
 
-pub holds_take : (xs d₀ d : List ℕ) (k : ℕ) → Holds xs k d₀ d → take k d ≡ xs
-holds_take xs d₀ d k h = ap (take k) h.is ∙ take-over xs d₀ k h.long
+  pub holds_push : (xs : List ℕ) {d' : List ℕ} → k ≤ length d → k + length xs ≤ n → d' ≡ over (take k d ++ xs) d → Holds k n (take k d ++ xs) d d'
+  holds_push xs h m e =
+      let l : length (take k d ++ xs) ≡ k + length xs = omega (arith, length-append (take k d) xs, length-take-le k d h) in
+      record { grown = omega (arith, l); most = omega (arith, l); is = e }
 
-pub holds_chain : (xs ys d₀ d d' : List ℕ) (k l : ℕ) → k ≤ l → Holds xs k d₀ d → Holds ys l d d' → Holds ys l d₀ d'
-holds_chain xs ys d₀ d d' k l le h g =
-    let n : length xs ≤ length ys = omega (arith, h.long, g.long) in
-    record { long = g.long; is = g.is ∙ ap (over ys) h.is ∙ over-over ys xs d₀ n; kept = g.kept ∙ h.kept }
+pub holds_most : {k m n : ℕ} {xs d₀ d : List ℕ} → m ≤ n → Holds k m xs d₀ d → Holds k n xs d₀ d
+holds_most l h = record { grown = h.grown; most = omega (arith, h.most); is = h.is }
 
--- ---- a loop that puts g 0, g 1, .. to d₀ from k on, n of them, and has put i
+pub holds_long : {k n : ℕ} {xs d₀ d : List ℕ} → Holds k n xs d₀ d → n ≤ length d₀ → length d ≡ length d₀
+holds_long {xs = xs} {d₀ = d₀} h l = ap length h.is ∙ length_over xs d₀ (omega (arith, h.most))
 
-pub record Putting (d₀ : List ℕ) (k : ℕ) (g : ℕ → ℕ) (n i : ℕ) (d : List ℕ) : Type 0 where
-  pub i≤ : i ≤ n
-  pub is : d ≡ written d₀ k g i
-  pub kept : length d ≡ length d₀
+pub holds_take : {k n : ℕ} {xs d₀ d : List ℕ} → Holds k n xs d₀ d → (m : ℕ) → m ≡ length xs → take m d ≡ xs
+holds_take {xs = xs} {d₀ = d₀} h m e = ap (take m) h.is ∙ take-over xs d₀ m (sym e)
 
-module _ {d₀ : List ℕ} {k : ℕ} {g : ℕ → ℕ} {n : ℕ} where
-  pub putting_start : Putting d₀ k g n 0 d₀
-  putting_start = record { i≤ = omega arith; is = written_none d₀ k g; kept = refl }
+pub holds_chain : {k l m n : ℕ} {xs ys d₀ d d' : List ℕ} → Holds k m xs d₀ d → Holds l n ys d d' → l ≡ length xs → Holds k n ys d₀ d'
+holds_chain {k} {l} {m} {n} {xs} {ys} {d₀} {d} {d'} h g e =
+    let t : length xs ≤ length ys = omega (arith, g.grown) in
+    record { grown = omega (arith, h.grown); most = g.most; is = g.is ∙ ap (over ys) h.is ∙ over-over ys xs d₀ t }
 
-  pub putting_step : k + n ≤ length d₀ → {i v : ℕ} {d : List ℕ} → Putting d₀ k g n i d → i < n → v ≡ g i → Putting d₀ k g n (i + 1) (set d (k + i) v)
-  putting_step room {i} h l e =
-      record { i≤ = omega arith; is = written_store d₀ k g i h.is refl e (omega arith); kept = simp length-set h.kept }
+module _ {A : Type 0} (g : A → A) (x : A) (j : ℕ) (h : g (iterate j g x) ≡ iterate j g x) where
+  stays_by : (i : ℕ) → iterate (j + i) g x ≡ iterate j g x
+  unfolding iterate
+  stays_by zero = rw add-zero refl
+  stays_by (suc i) = rw add-suc (ap g (stays_by i) ∙ h)
 
-  pub putting_end : k + n ≤ length d₀ → {i : ℕ} {d : List ℕ} → Putting d₀ k g n i d → n ≤ i → d ≡ over (take k d₀ ++ tab n g) d₀
-  putting_end room {i} h l =
-      let t : i ≡ n = omega (arith, h.i≤) in
-      written_end d₀ k g i n h.is t ∙ written_over d₀ k g n (omega arith)
-
--- three and four stores, one after the other
-pub puts3 : (d : List ℕ) (k a b v : ℕ) → k + 3 ≤ length d → set (set (set d k a) (k + 1) b) (k + 2) v ≡ over (take k d ++ (a ∷ b ∷ v ∷ [])) d
-puts3 d k a b v h = rw (add-one, add-two) (over_sets (a ∷ b ∷ v ∷ []) d k h)
-
-pub puts4 : (d : List ℕ) (k a b c v : ℕ) → k + 4 ≤ length d
-    → set (set (set (set d k a) (k + 1) b) (k + 2) c) (k + 3) v ≡ over (take k d ++ (a ∷ b ∷ c ∷ v ∷ [])) d
-puts4 d k a b c v h = rw (add-one, add-two, add-three) (over_sets (a ∷ b ∷ c ∷ v ∷ []) d k h)
+  -- what g keeps after j times, it keeps from then on
+  pub iterate_stays : (k : ℕ) → j ≤ k → iterate k g x ≡ iterate j g x
+  iterate_stays k l = let e : j + (k - j) ≡ k = omega arith in subst (λ (n : ℕ). iterate n g x ≡ iterate j g x) e (stays_by (k - j))

@@ -1,120 +1,93 @@
 -- Route after route: what the code leaves when k of them are read.
-use mathlib.Core.Path.{◌≡◌, refl, sym, subst}
+use mathlib.Core.Path.{◌≡◌, refl, sym, ◌∙◌, subst}
 use mathlib.Core.List.{List}
-use Prim.Native.Nat.{ℕ, ◌+◌, ◌*◌, ◌≤◌, ◌<◌}
+use Prim.Native.Nat.{ℕ, ◌+◌, ◌<◌}
 use native.Mathlib.Omega.{arith}
-use lib.ListN.{length}
+use borrow.Author.Tests.{ne_eqb}
+use Rattle.std.specs.Prelude.{Result, Ok, Err}
 use Rattle.laws.specs.Below.{iterate}
 use Rattle.laws.proofs.Below.{iterate_next}
-use Rattle.paper.specs.Reading.{Routes, next_route, no_routes}
-use Rattle.route_records.specs.State.{routes_of, RoutesHeld, Room, RowRoom, RoutesOn, RoutesRoom, RoutesDone}
+use Rattle.paper.specs.Reading.{Routes, next_route, route_at, no_routes}
+use Rattle.paper.specs.declared.Refusal.{Refusal}
+use Rattle.paper.specs.declared.Room.{Room}
+use Rattle.route_records.specs.State.{routes_of, RoutesOn, RoutesRoom, no_mid}
 use Rattle.route_records.specs.declared.RoutesRead.{RoutesRead}
-use Rattle.route_records.proofs.Held.{holds_start, holds_take, holds_chain}
+use Rattle.route_records.proofs.Held.{holds_front, holds_most, holds_take, holds_chain, iterate_stays}
+use Rattle.route_records.proofs.Trip.{all_kept, kept_on}
 
-routes_same : {w : Routes} {s : RoutesRead} {h₀ h p₀ p a₀ a d₀ d : List ℕ} → RoutesHeld w s h₀ h p₀ p a₀ a d₀ d → routes_of s h p a d ≡ w
-routes_same {w} {s} {h₀} {h} {p₀} {p} {a₀} {a} {d₀} {d} g =
-    λ i. record {
-      bad = g.bad i;
-      at = g.at i;
-      trips = g.trips i;
-      t1 = holds_take w.t1 h₀ h s.heads g.heads i;
-      t2 = holds_take w.t2 p₀ p s.positions g.positions i;
-      t3 = holds_take w.t3 a₀ a s.events g.arrivals i;
-      t4 = holds_take w.t4 d₀ d s.events g.departures i;
-    }
+module _ {f : List ℕ} {e k : ℕ} {old : Room} (pre : RoutesRoom e k f old) where
+  abbrev to : ℕ → Routes
+  to j = iterate j (next_route f e) no_routes
 
--- the same room in tables of the same lengths
-room_as : {e : ℕ} {q : RoutesRead} {f h h' p p' a a' d d' : List ℕ} → Room e q f h p a d
-    → length h ≡ length h' → length p ≡ length p' → length a ≡ length a' → length d ≡ length d' → Room e q f h' p' a' d'
-room_as r eh ep ea ed =
-    record {
-      within = r.within;
-      feed = r.feed;
-      small = r.small;
-      trips = r.trips;
-      heads = omega (arith, r.heads);
-      positions = r.positions;
-      events = r.events;
-      behind = r.behind;
-      long2 = omega (arith, r.long2);
-      long3 = omega (arith, r.long3);
-      long4 = omega (arith, r.long4);
-    }
-
--- the reading at the head's end
-abbrev pub no_mid : RoutesRead
-no_mid = record { bad = 0; at = 9; trips = 0; heads = 0; positions = 0; events = 0 }
-
--- what the loop over k routes keeps, j of them read
-pub record Routing (f : List ℕ) (e k : ℕ) (h₀ p₀ a₀ d₀ : List ℕ) (j : ℕ) (q : RoutesRead) (h p a d : List ℕ) : Type 0 where
-  pub j≤ : j ≤ k
-  pub heads≤ : q.heads ≤ 4 * j
-  pub room : Room e q f h₀ p₀ a₀ d₀
-  pub held : RoutesHeld (iterate j (next_route f e) no_routes) q h₀ h p₀ p a₀ a d₀ d
-
-module _ {f h₀ p₀ a₀ d₀ : List ℕ} {e k : ℕ} (pre : RoutesRoom e k f h₀ p₀ a₀ d₀) where
-  pub routing_start : Routing f e k h₀ p₀ a₀ d₀ 0 no_mid h₀ p₀ a₀ d₀
+  pub routing_start : RoutesOn e 0 no_mid (to 0) (Ok no_mid) old old
   unfolding iterate
   routing_start =
       record {
-        j≤ = omega arith;
-        heads≤ = omega arith;
-        room = record {
-          within = pre.behind_head;
-          feed = pre.feed;
-          small = pre.small;
-          trips = omega arith;
-          heads = omega arith;
-          positions = omega arith;
-          events = omega arith;
-          behind = λ z. omega arith;
-          long2 = pre.long2;
-          long3 = pre.long3;
-          long4 = pre.long4;
-        };
+        limits = record { within = pre.behind_head; trips = omega arith; behind = λ z. omega arith };
         held = record {
-          bad = refl;
-          at = refl;
-          trips = refl;
-          heads = holds_start h₀ 0 (omega arith);
-          positions = holds_start p₀ 0 (omega arith);
-          arrivals = holds_start a₀ 0 (omega arith);
-          departures = holds_start d₀ 0 (omega arith);
+          routes = holds_front (omega arith) (omega arith);
+          positions = holds_front (omega arith) (omega arith);
+          arrivals = holds_front (omega arith) (omega arith);
+          departures = holds_front (omega arith) (omega arith);
+          walks = refl;
+          kept = all_kept;
         };
+        end = record { bad = refl; at = refl; trips = refl; heads = refl; positions = refl; arrivals = refl; departures = refl };
       }
 
-  pub routing_room : {j : ℕ} {q : RoutesRead} {h p a d : List ℕ} → Routing f e k h₀ p₀ a₀ d₀ j q h p a d → j < k → RowRoom e q f h p a d
-  routing_room {j} {q} {h} {p} {a} {d} i l =
-      record {
-        room = room_as i.room (sym i.held.heads.kept) (sym i.held.positions.kept) (sym i.held.arrivals.kept) (sym i.held.departures.kept);
-        row = omega (arith, i.heads≤, pre.k≤);
-        long1 = omega (arith, i.held.heads.kept, pre.long1);
-      }
+  module _ {j : ℕ} {q : RoutesRead} {room : Room} (h : RoutesOn e j no_mid (to j) (Ok q) old room) (l : j < k) where
+    same : routes_of q room ≡ to j
+    same =
+        let v = h.held in
+        let u = h.end in
+        λ i. record {
+          bad = sym u.bad i;
+          at = u.at i;
+          trips = u.trips i;
+          t1 = holds_take v.routes q.heads u.heads i;
+          t2 = holds_take v.positions q.positions u.positions i;
+          t3 = holds_take v.arrivals q.events u.arrivals i;
+          t4 = holds_take v.departures q.events u.departures i;
+        }
 
-  pub routing_step : {j : ℕ} {q r : RoutesRead} {h h' p p' a a' d d' : List ℕ} → Routing f e k h₀ p₀ a₀ d₀ j q h p a d → j < k
-      → RoutesOn e q f (next_route f e (routes_of q h p a d)) r h h' p p' a a' d d' → Routing f e k h₀ p₀ a₀ d₀ (j + 1) r h' p' a' d'
-  routing_step {j} {q} {r} {h} {h'} {p} {p'} {a} {a'} {d} {d'} i l g =
-      let w : Routes = iterate j (next_route f e) no_routes in
-      let v = i.held in
-      let x : RoutesHeld (next_route f e w) r h h' p p' a a' d d'
-      = subst (λ (y : Routes). RoutesHeld (next_route f e y) r h h' p p' a a' d d') (routes_same v) g.held in
-      record {
-        j≤ = omega arith;
-        heads≤ = omega (arith, i.heads≤, g.most);
-        room = room_as g.room v.heads.kept v.positions.kept v.arrivals.kept v.departures.kept;
-        held = rw (iterate_next j (next_route f e) no_routes)
-            (record {
-              bad = x.bad;
-              at = x.at;
-              trips = x.trips;
-              heads = holds_chain w.t1 _ h₀ h h' q.heads r.heads g.grown.heads v.heads x.heads;
-              positions = holds_chain w.t2 _ p₀ p p' q.positions r.positions g.grown.positions v.positions x.positions;
-              arrivals = holds_chain w.t3 _ a₀ a a' q.events r.events g.grown.events v.arrivals x.arrivals;
-              departures = holds_chain w.t4 _ d₀ d d' q.events r.events g.grown.events v.departures x.departures;
-            });
-      }
+    pub routing_step : {r : Result RoutesRead Refusal} {new : Room} → RoutesOn e 1 q (next_route f e (routes_of q room)) r room new
+        → RoutesOn e (j + 1) no_mid (to (j + 1)) r old new
+    routing_step {r} {new} g =
+        let v = h.held in
+        let u = h.end in
+        let x = subst (λ (y : Routes). RoutesOn e 1 q (next_route f e y) r room new) same g in
+        rw (iterate_next j (next_route f e) no_routes)
+        (record {
+          limits = x.limits;
+          held = record {
+            routes = holds_most (omega (arith, u.heads, v.routes.most)) (holds_chain v.routes x.held.routes u.heads);
+            positions = holds_chain v.positions x.held.positions u.positions;
+            arrivals = holds_chain v.arrivals x.held.arrivals u.arrivals;
+            departures = holds_chain v.departures x.held.departures u.departures;
+            walks = x.held.walks ∙ v.walks;
+            kept = kept_on v.kept x.held.kept;
+          };
+          end = x.end;
+        })
 
-  pub routing_end : {j : ℕ} {q : RoutesRead} {h p a d : List ℕ} → Routing f e k h₀ p₀ a₀ d₀ j q h p a d → k ≤ j → RoutesDone e k f q h₀ h p₀ p a₀ a d₀ d
-  routing_end {j} i l =
-      let t : j ≡ k = omega (arith, i.j≤) in
-      record { heads≤ = omega (arith, i.heads≤, pre.k≤); room = i.room; held = rw t at i.held }
+    -- a bad record ends it
+    pub routing_bad : {x : Refusal} {new : Room} → RoutesOn e 1 q (next_route f e (routes_of q room)) (Err x) room new
+        → RoutesOn e k no_mid (to k) (Err x) old new
+    unfolding next_route route_at
+    routing_bad {x} {new} g =
+        let y = routing_step g in
+        let v = y.held in
+        let t = iterate_stays (next_route f e) no_routes (j + 1) (simp (ne_eqb (to (j + 1)).bad 0 y.end.met)) k (omega arith) in
+        rw t
+        (record {
+          limits = y.limits;
+          held = record {
+            routes = holds_most (omega arith) v.routes;
+            positions = v.positions;
+            arrivals = v.arrivals;
+            departures = v.departures;
+            walks = v.walks;
+            kept = v.kept;
+          };
+          end = y.end;
+        })

@@ -1,6 +1,9 @@
--- Elements put to a table, as the code puts them; and a table that is filled from the front.
+-- Elements put to a table, as the code puts them; and tables that are filled from the front.
 use Rattle.std.specs.Prelude.{◌≡◌, List, ℕ, ◌+◌, ◌≤◌, ◌<◌, length}
 use Rattle.laws.specs.Lists.{over}
+use Rattle.paper.specs.Rules.{refusal}
+use Rattle.paper.specs.declared.Refusal.{Refusal}
+use Rattle.paper.specs.declared.Room.{Room}
 
 -- `size` bytes stand at `at`, and the table d has room for n elements from k on
 pub record CanPut (f : List ℕ) (at size : ℕ) (d : List ℕ) (k n : ℕ) : Type 0 where
@@ -16,8 +19,21 @@ pub record CanPutRow (d : List ℕ) (k n m p v : ℕ) : Type 0 where
   pub p< : p < 65536
   pub v< : v < 65536
 
--- the table d₀ has become d: its first k are xs, the rest is as it was
-pub record Holds (xs : List ℕ) (k : ℕ) (d₀ d : List ℕ) : Type 0 where
-  pub long : length xs ≡ k
+-- the table d₀ has become d: xs in front, from k to n elements, and the rest as it was
+pub record Holds (k n : ℕ) (xs d₀ d : List ℕ) : Type 0 where
+  pub grown : k ≤ length xs
+  pub most : length xs ≤ n
   pub is : d ≡ over xs d₀
-  pub kept : length d ≡ length d₀
+
+-- the tables stay where they were lent
+pub record Kept (old new : Room) : Type 0 where
+  pub routes : new.routes.ghost_name ≡ old.routes.ghost_name
+  pub positions : new.positions.ghost_name ≡ old.positions.ghost_name
+  pub arrivals : new.arrivals.ghost_name ≡ old.arrivals.ghost_name
+  pub departures : new.departures.ghost_name ≡ old.departures.ghost_name
+  pub walks : new.walks.ghost_name ≡ old.walks.ghost_name
+
+-- a reading that met a bad record is refused by its number, at its place
+pub record Refused (bad at : ℕ) (x : Refusal) : Type 0 where
+  pub met : bad ≡ 0 → ⊥
+  pub is : x ≡ refusal bad at

@@ -1,23 +1,24 @@
-// Route records and their trips, read into tables 1 to 4. Reading that has met a bad record stays where it is.
+// Route records and their trips, read into tables 1 to 4. A bad record ends the reading; the tables hold what was read before it.
 #![tactic(auto)]
 
 ghost use Rattle.std.specs.Prelude.{◌≡◌};
+ghost use Rattle.laws.specs.Below.{iterate};
 ghost use Rattle.paper.specs.Rules.{counted};
-ghost use Rattle.paper.specs.Reading.{next_route};
-ghost use Rattle.route_records.specs.State.{routes_of, CountsSmall, routes_stopped, routes_past, SumsSmall, route_bad, RouteNear, RowRoom, RoutesOn, RoutesRoom, RoutesDone};
+ghost use Rattle.paper.specs.Reading.{next_route, no_routes};
+ghost use Rattle.route_records.specs.State.{routes_of, CountsSmall, route_bad, RouteNear, RecordSound, RowRoom, RoutesOn, RoutesRoom, no_mid};
 
 mod keep;
 mod trips;
 
 use crate::keep::{keep_row, keep_stops};
 use crate::trips::{TripsRead, read_trips};
-use fields::{byte_in, two_in};
+use fields::Fields;
+use paper::{Reason, Refusal, Room};
 use standing::stands;
 
-// The reading of the routes: the refusal's number or 0, the offset, and how much each table holds.
+// How far the reading of the routes has come: the offset, the trips so far, and how much each table holds.
 #[derive(Clone, Copy)]
 pub struct RoutesRead {
-    pub bad: u32,
     pub at: usize,
     pub trips: usize,
     pub heads: usize,
@@ -33,110 +34,63 @@ fn counts_fit(n: usize, m: usize, trips: usize, events: usize) -> bool
     (2 <= n) & (n <= 64) & ((1 <= m) & (m <= 512)) & ((trips + m <= 512) & (events + n * m <= 2048))
 }
 
-// A bad route record: the reading stays where it is.
-fn stop_at(s: RoutesRead, bad: u32) -> RoutesRead
-    ensures { result ≡ routes_stopped s bad }
+// What refuses a route record of n and m. All tests come before any store: mark, counts and totals so far, rest fits.
+fn check_route(f: &[u8], e: usize, n: usize, m: usize, s: RoutesRead) -> Result<(), Refusal>
+    requires { RouteNear e n m s f.now }
+    ensures { RecordSound (route_bad f.now e n m s) s.at result }
 {
-    RoutesRead {
-        bad,
-        at: s.at,
-        trips: s.trips,
-        heads: s.heads,
-        positions: s.positions,
-        events: s.events,
+    let at = s.at as u32;
+    if !stands(f, e, s.at, 5, b'R', b'T') {
+        return Err(Reason::Form.at(at));
     }
+    if !counts_fit(n, m, s.trips, s.events) {
+        return Err(Reason::Count.at(at));
+    }
+    if e < s.at + 5 + n {
+        return Err(Reason::Form.at(at));
+    }
+    Ok(())
 }
 
-// The reading behind a good route of n and m whose trips ended at q.
-fn past_route(n: usize, m: usize, s: RoutesRead, q: TripsRead) -> RoutesRead
-    requires { SumsSmall n m s }
-    ensures { result ≡ routes_past n m s q }
+// A route record: its row, its stops, and then its trips.
+fn read_route(f: &[u8], e: usize, s: RoutesRead, room: &mut Room) -> Result<RoutesRead, Refusal>
+    requires { RowRoom e s f.now room.old }
+    ensures { RoutesOn e 1 s (next_route f.now e (routes_of s room.old)) result room.old room.new }
 {
-    RoutesRead {
-        bad: q.bad,
+    let record = Fields { feed: f, at: s.at };
+    let n = record.byte(2) as usize;
+    let m = record.two(3) as usize;
+    check_route(f, e, n, m, s)?;
+    keep_row(room.routes, s.heads, n, m, s.positions, s.events);
+    keep_stops(f, s.at + 5, n, room.positions, s.positions);
+    let start = TripsRead {
+        at: s.at + 5 + n,
+        events: s.events,
+    };
+    let q = read_trips(f, e, n, m, start, room)?;
+    Ok(RoutesRead {
         at: q.at,
         trips: s.trips + m,
         heads: s.heads + 4,
         positions: s.positions + n,
         events: q.events,
-    }
-}
-
-// The refusal's number of a route record of n and m, or 0. All tests come before any store: mark, counts and totals so far, rest fits.
-fn route_bad(f: &[u8], e: usize, n: usize, m: usize, s: RoutesRead) -> u32
-    requires { RouteNear e n m s f.now }
-    ensures { result ≡ route_bad f.now e n m s }
-{
-    if !stands(f, e, s.at, 5, 82, 84) {
-        return 3;
-    }
-    if !counts_fit(n, m, s.trips, s.events) {
-        return 5;
-    }
-    if e < s.at + 5 + n {
-        return 3;
-    }
-    0
-}
-
-// A route record: its row, its stops, and then its trips.
-fn read_route(
-    f: &[u8],
-    e: usize,
-    s: RoutesRead,
-    routes: &mut [u32],
-    positions: &mut [u32],
-    arrivals: &mut [u32],
-    departures: &mut [u32],
-) -> RoutesRead
-    requires { RowRoom e s f.now routes.old positions.old arrivals.old departures.old }
-    ensures { RoutesOn e s f.now (next_route f.now e (routes_of s routes.old positions.old arrivals.old departures.old)) result routes.old routes.new positions.old positions.new arrivals.old arrivals.new departures.old departures.new }
-{
-    if s.bad != 0 {
-        return s;
-    }
-    let n = byte_in(f, s.at, 2) as usize;
-    let m = two_in(f, s.at, 3) as usize;
-    let bad = route_bad(f, e, n, m, s);
-    if bad != 0 {
-        return stop_at(s, bad);
-    }
-    keep_row(routes, s.heads, n, m, s.positions, s.events);
-    keep_stops(f, s.at + 5, n, positions, s.positions);
-    let start = TripsRead {
-        bad: 0,
-        at: s.at + 5 + n,
-        events: s.events,
-    };
-    let q = read_trips(f, e, n, m, start, arrivals, departures);
-    past_route(n, m, s, q)
+    })
 }
 
 // The first k routes.
-pub fn read_routes(
-    f: &[u8],
-    e: usize,
-    k: usize,
-    routes: &mut [u32],
-    positions: &mut [u32],
-    arrivals: &mut [u32],
-    departures: &mut [u32],
-) -> RoutesRead
-    requires { RoutesRoom e k f.now routes.old positions.old arrivals.old departures.old }
-    ensures { RoutesDone e k f.now result routes.old routes.new positions.old positions.new arrivals.old arrivals.new departures.old departures.new }
+pub fn read_routes(f: &[u8], e: usize, k: usize, room: &mut Room) -> Result<RoutesRead, Refusal>
+    requires { RoutesRoom e k f.now room.old }
+    ensures { RoutesOn e k no_mid (iterate k (next_route f.now e) no_routes) result room.old room.new }
 {
     let mut q = RoutesRead {
-        bad: 0,
         at: 9,
         trips: 0,
         heads: 0,
         positions: 0,
         events: 0,
     };
-    let mut j: usize = 0;
-    while j < k {
-        q = read_route(f, e, q, routes, positions, arrivals, departures);
-        j += 1;
+    for _ in 0..k {
+        q = read_route(f, e, q, room)?;
     }
-    q
+    Ok(q)
 }

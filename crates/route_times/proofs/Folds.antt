@@ -1,95 +1,94 @@
--- Folds over all events of a route: what one place more tells, and what they tell at the end.
-use mathlib.Core.Path.{◌≡◌, ap}
-use mathlib.Core.Bool.{Bool, true, false, ◌||◌}
+-- Folds over the times of a route, two by two: what they tell at the end, and 9 by two of them.
+use mathlib.Core.Path.{◌≡◌, sym, ap, ◌∙◌}
+use mathlib.Core.Bool.{Bool, true, not, ◌&&◌}
 use mathlib.Core.List.{List}
 use Prim.Native.Nat.{ℕ, suc, ◌+◌, ◌*◌, ◌-◌, ◌≤◌, ◌<◌}
 use native.Mathlib.Nat.{mul-suc, add-mul}
 use native.Mathlib.Omega.{arith}
-use lib.Dec.{ltb}
+use lib.Dec.{leb}
 use lib.ListN.{length, get_or}
-use borrow.Author.Count.{below_more}
-use borrow.Author.Tests.{ltb-false}
-use Rattle.laws.proofs.Tests.{cell_in}
-use Rattle.laws.proofs.Checking.{or_none}
+use borrow.Author.Tests.{leb-true, not-false}
+use Rattle.std.specs.Prelude.{fold, zip}
+use Rattle.std.proofs.lemmas.Slice.Zip.{length-zip, get_or-zip}
+use Rattle.laws.specs.Lists.{part}
+use Rattle.laws.proofs.Tests.{cell_in, and_both}
+use Rattle.laws.proofs.Folds.{each_passes}
+use Rattle.laws.proofs.Lists.{length_part, get_d_part}
 use Rattle.paper.specs.Timetable.{Route}
-use Rattle.paper.specs.Rules.{NoOvertaking}
 use Rattle.paper.proofs.Places.{time_whole, order_whole}
-use Rattle.route_times.specs.Route.{times_of, event_broken, InRoute}
-use Rattle.route_times.specs.Folds.{Events, TimesTold, OrderTold, BrokenTold}
+use Rattle.route_times.specs.declared.Sought.{Sought}
+use Rattle.route_times.specs.Route.{event_broken, InRoute}
+use Rattle.route_times.specs.Folds.{TimesTold, OrderTold, BrokenTold}
 
 -- n further on stands the next trip's event
 pub next_trip : (n j i : ℕ) → j * n + i + n ≡ (j + 1) * n + i
 next_trip n j i = omega (arith, add-mul j 1 n)
 
 -- event e stands in the tables
-pub record Stands (arrivals departures : List ℕ) (e : ℕ) : Type 0 where
+pub record Stands (R : Route) (e : ℕ) : Type 0 where
   pub small : e < 2048
-  pub in_arrivals : e < length arrivals
-  pub in_departures : e < length departures
+  pub in_arrivals : e < length R.arrivals
+  pub in_departures : e < length R.departures
 
-pub event_in : {arrivals departures : List ℕ} {events e : ℕ} → Events events arrivals departures → e < events → Stands arrivals departures e
-event_in h l = record { small = omega (arith, h.small); in_arrivals = omega (arith, h.arrivals≥); in_departures = omega (arith, h.departures≥) }
+pub event_in : {R : Route} {e : ℕ} → InRoute R → e < R.n * R.m → Stands R e
+event_in h l =
+    record { small = omega (arith, h.small); in_arrivals = omega (arith, h.arrivals≥); in_departures = omega (arith, h.departures≥) }
 
-pub route_events : {n m : ℕ} {arrivals departures : List ℕ} → InRoute n m arrivals departures → Events (n * m) arrivals departures
-route_events {n} {m} h =
-    let p = h.n≥ in
-    let q = h.m≥ in
-    let x : 0 * n + 0 < n * m = cell_in n m 0 0 (omega arith) (omega arith) in
-    record { some = omega arith; small = h.small; arrivals≥ = h.arrivals≥; departures≥ = h.departures≥ }
+-- ---- two lists of times, side by side
 
-module _ (n m : ℕ) (arrivals departures : List ℕ) where
-  abbrev R : Route
-  R = times_of n m arrivals departures
+module _ (xs ys : List ℕ) where
+  -- whether none of the first is after the one beside it
+  abbrev pub ordered : Bool
+  ordered = fold (λ all (p : ℕ × ℕ). all && leb p.0 p.1) true (zip xs ys)
 
-  -- ---- 9 on one route: event e, and n further on the next trip's event at the same position
+  pub in_order : ordered ≡ true → (k : ℕ) → k < length xs → k < length ys → get_or xs k 0 ≤ get_or ys k 0
+  in_order e k l m =
+      let long : k < length (zip xs ys) = omega (arith, length-zip xs ys) in
+      let x = each_passes (λ (p : ℕ × ℕ). leb p.0 p.1) true (zip xs ys) e k (0, 0) long in
+      leb-true (get_or xs k 0) (get_or ys k 0) (rw (get_or-zip xs ys k (0, 0) l m) at x)
 
-  pub record EventOrder (e : ℕ) : Type 0 where
-    pub arrives : get_or arrivals e 0 ≤ get_or arrivals (e + n) 0
-    pub departs : get_or departures e 0 ≤ get_or departures (e + n) 0
+module _ (R : Route) where
+  -- ---- 9: each event, and n further on the next trip's event at the same position
 
-  -- no event below e is overtaken
-  abbrev pub OrderRight : ℕ → Type 0
-  OrderRight e = (k : ℕ) → k < e → EventOrder k
-
-  pub order_start : (wrong : Bool) → wrong ≡ false → OrderRight 0
-  order_start wrong f k l = absurd (omega arith)
-
-  pub order_more : (e : ℕ) (wrong : Bool) → (wrong ≡ false → OrderRight e) →
-      (wrong || ltb (get_or arrivals (e + n) 0) (get_or arrivals e 0) || ltb (get_or departures (e + n) 0) (get_or departures e 0)) ≡ false → OrderRight (e + 1)
-  order_more e wrong h f =
-      let a = or_none _ (ltb (get_or departures (e + n) 0) (get_or departures e 0)) f in
-      let b = or_none wrong (ltb (get_or arrivals (e + n) 0) (get_or arrivals e 0)) a.0 in
-      below_more EventOrder e (h b.0)
-      (record { arrives = ltb-false (get_or arrivals (e + n) 0) (get_or arrivals e 0) b.1; departs = ltb-false (get_or departures (e + n) 0) (get_or departures e 0) a.1 })
-
-  order_at : (j i : ℕ) → j < m - 1 → i < n → OrderRight (n * (m - 1)) → NoOvertaking R j i
-  order_at j i l b h =
-      let x : EventOrder (j * n + i) = h (j * n + i) (cell_in n (m - 1) j i l b) in
-      let z = next_trip n j i in
-      record { arrives = rw z at x.arrives; departs = rw z at x.departs }
-
-  pub order_told : (e : ℕ) (wrong : Bool) → n * (m - 1) ≤ e → (wrong ≡ false → OrderRight e) → OrderTold n m arrivals departures wrong
-  order_told e wrong l h = record { right = λ f j i a b. order_at j i (omega arith) b (λ k c. h f k (omega arith)) }
-
-  pub all_pairs : InRoute n m arrivals departures → n * (m - 1) + n ≡ n * m
-  all_pairs h =
+  pub all_events : InRoute R → R.n * (R.m - 1) + R.n ≡ R.n * R.m
+  all_events h =
       let p = h.m≥ in
-      let z : m ≡ suc (m - 1) = omega arith in
-      omega (arith, ap (λ (k : ℕ). n * k) z, mul-suc n (m - 1))
+      let z : R.m ≡ suc (R.m - 1) = omega arith in
+      omega (arith, ap (λ (k : ℕ). R.n * k) z, mul-suc R.n (R.m - 1))
 
-  pub pairs_small : InRoute n m arrivals departures → n * (m - 1) ≤ 2048
-  pairs_small h = omega (arith, all_pairs h, h.small)
+  -- of a table of times, what stands from the second trip on
+  abbrev pub later : List ℕ → List ℕ
+  later times = part R.n (R.n * R.m) times
 
-  pub next_cell : (e : ℕ) → InRoute n m arrivals departures → e < n * (m - 1) → Stands arrivals departures (e + n)
-  next_cell e h l = event_in (route_events h) (omega (arith, all_pairs h))
+  rises : InRoute R → (times : List ℕ) → R.n * R.m ≤ length times → ordered times (later times) ≡ true →
+      (j i : ℕ) → j + 1 < R.m → i < R.n → get_or times (j * R.n + i) 0 ≤ get_or times ((j + 1) * R.n + i) 0
+  rises h times long e j i l b =
+      let at = j * R.n + i in
+      let x : at < R.n * (R.m - 1) = cell_in R.n (R.m - 1) j i (omega arith) b in
+      let a = all_events h in
+      let n : at < length (later times) = omega (arith, length_part times R.n (R.n * R.m) long) in
+      let q : get_or (later times) at 0 ≡ get_or times (R.n + at) 0 = get_d_part times R.n (R.n * R.m) at 0 (omega arith) in
+      let z : R.n + at ≡ (j + 1) * R.n + i = omega (arith, next_trip R.n j i) in
+      rw (q, z) at (in_order times (later times) e at (omega arith) n)
 
-  -- ---- 8, or 9 where overtaking is sought
+  pub order_told : {arrive depart : Bool} → InRoute R → arrive ≡ ordered R.arrivals (later R.arrivals) →
+      depart ≡ ordered R.departures (later R.departures) → OrderTold R (not (arrive && depart))
+  order_told {arrive} {depart} h a d =
+      record {
+        right = λ f j i l b. let x = and_both arrive depart (not-false _ f) in
+            record {
+              arrives = rises h R.arrivals h.arrivals≥ (sym a ∙ x.0) j i l b;
+              departs = rises h R.departures h.departures≥ (sym d ∙ x.1) j i l b;
+            };
+      }
 
-  module _ (b : Bool) {wrong : Bool} where
-    pub order_sought : b ≡ true → OrderTold n m arrivals departures wrong → BrokenTold b n m arrivals departures wrong
+  -- ---- the rule that is sought
+
+  module _ {wrong : Bool} where
+    pub order_sought : OrderTold R wrong → BrokenTold Sought.Overtake R wrong
     unfolding event_broken
-    order_sought e t = rw e (record { right = λ f j i l p. order_whole R j i (t.right f j i l p) })
+    order_sought t = record { right = λ f j i l p. order_whole R j i (t.right f j i l p) }
 
-    pub times_sought : b ≡ false → TimesTold n m arrivals departures wrong → BrokenTold b n m arrivals departures wrong
+    pub times_sought : TimesTold R wrong → BrokenTold Sought.Time R wrong
     unfolding event_broken
-    times_sought e t = rw e (record { right = λ f j i l p. time_whole R j i (t.right f j i (omega arith) p) })
+    times_sought t = record { right = λ f j i l p. time_whole R j i (t.right f j i (omega arith) p) }

@@ -1,3 +1,3 @@
 -- What the functions' proofs cite.
 pub mod Folds
-pub mod Times
+pub mod Rising

@@ -1,20 +1,51 @@
-// 8 and 9 on one route: whether any event is broken. The loops leave nowhere early, so that several places are tested at a time.
+// 8 and 9 on one route: whether any event is broken.
+// The loops leave nowhere early, so that several places are tested at a time.
 #![tactic(auto)]
 
-ghost use Rattle.std.specs.Prelude.{◌≡◌, ◌+◌, ◌*◌, ◌-◌};
+ghost use Rattle.std.specs.Prelude.{◌≡◌, ◌+◌, ◌*◌, ◌-◌, ◌&&◌, fold, zip, nat_le, true};
 ghost use Rattle.laws.specs.Below.{sum_below};
-ghost use Rattle.route_times.specs.Route.{InRoute};
-ghost use Rattle.route_times.specs.Folds.{Events, EndsTold, HaltsTold, fall_at, TimesTold, OrderTold, BrokenTold};
+ghost use Rattle.route_times.specs.Route.{timed, InRoute, ahead};
+ghost use Rattle.route_times.specs.Folds.{Steps, EndsTold, fall_at, TimesTold, OrderTold, BrokenTold};
+
+// Which of the two rules is sought: 8, times within a trip, or 9, trips that overtake.
+#[derive(Clone, Copy, Debug, PartialEq, Eq)]
+pub enum Sought {
+    Time,
+    Overtake,
+}
+
+impl Sought {
+    // How many trips before the place the tested trip is: of 9 the place is the next trip's event.
+    pub fn ahead(self) -> usize
+        ensures { result ≡ ahead self }
+    {
+        match self {
+            Sought::Time => 0,
+            Sought::Overtake => 1,
+        }
+    }
+}
+
+// One route's own times: m trips, one after the other, of n events each.
+#[derive(Clone, Copy)]
+pub struct Times<'a> {
+    pub n: usize,
+    pub m: usize,
+    pub arrivals: &'a [u32],
+    pub departures: &'a [u32],
+}
 
 // 8 at both ends of each trip, which bounds all its times where they rise.
-fn ends_wrong(n: usize, m: usize, arrivals: &[u32], departures: &[u32]) -> bool
-    requires { InRoute n m arrivals.now departures.now }
-    ensures { EndsTold n m arrivals.now departures.now result }
+fn ends_wrong(times: Times) -> bool
+    requires { InRoute (timed times) }
+    ensures { EndsTold (timed times.entry) result }
 {
+    let arrivals = times.arrivals;
+    let departures = times.departures;
     let mut wrong = false;
-    for j in 0..m {
-        let first = j * n;
-        let last = first + (n - 1);
+    for j in 0..times.m {
+        let first = j * times.n;
+        let last = first + (times.n - 1);
         wrong = wrong
             | (arrivals[first] != departures[first])
             | (arrivals[last] != departures[last])
@@ -23,78 +54,61 @@ fn ends_wrong(n: usize, m: usize, arrivals: &[u32], departures: &[u32]) -> bool
     wrong
 }
 
-// 8: whether any event's arrival is after its departure.
-fn halts_wrong(events: usize, arrivals: &[u32], departures: &[u32]) -> bool
-    requires { Events events arrivals.now departures.now }
-    ensures { HaltsTold events arrivals.now departures.now result }
+// Whether none of these times is after the one beside it.
+fn in_order(times: &[u32], others: &[u32]) -> bool
+    ensures { result ≡ fold (λ all pair. all && nat_le pair.0 pair.1) true (zip times.now others.now) }
 {
-    let mut wrong = false;
-    for e in 0..events {
-        wrong = wrong | (arrivals[e] > departures[e]);
-    }
-    wrong
+    times
+        .iter()
+        .zip(others)
+        .fold(true, |all, (time, other)| all & (*time <= *other))
 }
 
-// How many events but the last depart after the arrival of the event behind them, be it the same trip's or not.
-fn falls(events: usize, arrivals: &[u32], departures: &[u32]) -> u32
-    requires { Events events arrivals.now departures.now }
-    ensures { result ≡ sum_below (events - 1) (fall_at arrivals.now departures.now) }
+// How many of the last events of so many runs of `step` events depart after the arrival of the event behind them.
+fn falls(times: Times, step: usize, runs: usize) -> u32
+    requires { Steps (timed times) step runs }
+    ensures { result ≡ sum_below runs (λ k. fall_at (timed times.entry) (k * step + (step - 1))) }
 {
-    let last = events - 1;
     let mut count: u32 = 0;
-    for e in 0..last {
-        count += (departures[e] > arrivals[e + 1]) as u32;
-    }
-    count
-}
-
-// The same of the last event of each trip but the last.
-fn falls_between(n: usize, m: usize, arrivals: &[u32], departures: &[u32]) -> u32
-    requires { InRoute n m arrivals.now departures.now }
-    ensures { result ≡ sum_below (m - 1) (λ j. fall_at arrivals.now departures.now (j * n + (n - 1))) }
-{
-    let trips = m - 1;
-    let mut count: u32 = 0;
-    for j in 0..trips {
-        let last = j * n + (n - 1);
-        count += (departures[last] > arrivals[last + 1]) as u32;
+    for k in 0..runs {
+        let last = k * step + (step - 1);
+        count += (times.departures[last] > times.arrivals[last + 1]) as u32;
     }
     count
 }
 
 // 8 on one route: whether any event is broken. Where as many events fall as between trips, none falls within a trip.
-fn times_wrong(n: usize, m: usize, arrivals: &[u32], departures: &[u32]) -> bool
-    requires { InRoute n m arrivals.now departures.now }
-    ensures { TimesTold n m arrivals.now departures.now result }
+fn times_wrong(times: Times) -> bool
+    requires { InRoute (timed times) }
+    ensures { TimesTold (timed times.entry) result }
 {
-    let events = n * m;
-    let ends = ends_wrong(n, m, arrivals, departures);
-    let halts = halts_wrong(events, arrivals, departures);
-    let all = falls(events, arrivals, departures);
-    let between = falls_between(n, m, arrivals, departures);
+    let events = times.n * times.m;
+    let ends = ends_wrong(times);
+    let halts = !in_order(&times.arrivals[..events], times.departures);
+    let all = falls(times, 1, events - 1);
+    let between = falls(times, times.n, times.m - 1);
     ends | halts | (all != between)
 }
 
-// 9 on one route: whether any trip overtakes.
-fn order_wrong(n: usize, m: usize, arrivals: &[u32], departures: &[u32]) -> bool
-    requires { InRoute n m arrivals.now departures.now }
-    ensures { OrderTold n m arrivals.now departures.now result }
+// 9 on one route: whether any trip overtakes. The next trip's event stands n further on.
+fn order_wrong(times: Times) -> bool
+    requires { InRoute (timed times) }
+    ensures { OrderTold (timed times.entry) result }
 {
-    let events = n * (m - 1);
-    let mut wrong = false;
-    for e in 0..events {
-        wrong = wrong | (arrivals[e + n] < arrivals[e]) | (departures[e + n] < departures[e]);
-    }
-    wrong
+    let n = times.n;
+    let events = n * times.m;
+    let arrive = in_order(times.arrivals, &times.arrivals[n..events]);
+    let depart = in_order(times.departures, &times.departures[n..events]);
+    !(arrive & depart)
 }
 
-// 8 on one route, or 9 where overtaking is sought: whether any event is broken.
-pub fn any_wrong(overtaking: bool, n: usize, m: usize, arrivals: &[u32], departures: &[u32]) -> bool
-    requires { InRoute n m arrivals.now departures.now }
-    ensures { BrokenTold overtaking n m arrivals.now departures.now result }
+// The rule that is sought, on one route: whether any event is broken.
+pub fn any_wrong(sought: Sought, times: Times) -> bool
+    requires { InRoute (timed times) }
+    ensures { BrokenTold sought (timed times.entry) result }
 {
-    if overtaking {
-        return order_wrong(n, m, arrivals, departures);
+    match sought {
+        Sought::Time => times_wrong(times),
+        Sought::Overtake => order_wrong(times),
     }
-    times_wrong(n, m, arrivals, departures)
 }

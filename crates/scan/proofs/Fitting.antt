@@ -1,5 +1,5 @@
 -- What a sound timetable in tables of full size gives a ride and a walk.
-use mathlib.Core.Path.{◌≡◌, refl}
+use mathlib.Core.Path.{◌≡◌}
 use Prim.Native.Nat.{ℕ, ◌*◌, ◌<◌}
 use native.Mathlib.Omega.{arith}
 use Rattle.laws.proofs.Lists.{length-part_of}
@@ -8,13 +8,8 @@ use Rattle.paper.specs.Rules.{Sound, Fit}
 use Rattle.paper.proofs.RouteEnds.{positions_in, arrivals_in, departures_in}
 use Rattle.paper.proofs.Usable.{Usable, usable_of}
 use Rattle.extents.specs.Extent.{extent_of}
-use Rattle.scan.specs.Look.{route_at, Scannable, Standing, routes_in, Rideable}
+use Rattle.scan.specs.Look.{route_at, Scannable, Standing, Rideable}
 use Rattle.scan.specs.Walk.{Walkable}
-
--- a route asks nothing of the walks and the head counts
-pub same_route : (T : Tables) (r : ℕ) → route_of (routes_in T.t1 T.t2 T.t3 T.t4) r ≡ route_of T r
-unfolding route_of
-same_route T r = refl
 
 module _ (T : Tables) (fit : Fit T) where
   sound : Sound T
@@ -44,10 +39,10 @@ module _ (T : Tables) (fit : Fit T) where
     standing : Standing (extent_of T.t1 r) T.t2 T.t3 T.t4 T.stops 256
     standing = record { positions_in = positions_in T fit r h; arrivals_in = arrivals_in T fit r h; departures_in = departures_in T fit r h; scannable = scannable }
 
-  pub rideable : (row : ℕ) → row ≡ T.stops → Rideable (routes_in T.t1 T.t2 T.t3 T.t4) T.routes row 256
+  pub rideable : (row : ℕ) → row ≡ T.stops → Rideable T row 256
   rideable row e = record { few = sound.routes≤; heads = omega (arith, sound.routes≤, fit.routes_room); standing = λ r l. rw e (standing r l) }
 
-  pub walkable : (reach : ℕ) → reach ≡ 256 → Walkable T.t5 T.walks reach 256
+  pub walkable : (reach : ℕ) → reach ≡ 256 → Walkable T reach 256
   walkable reach e =
       record {
         few = sound.walks≤;

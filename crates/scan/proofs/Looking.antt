@@ -9,20 +9,19 @@ use native.Mathlib.Omega.{arith}
 use lib.Arith.{digits_lt}
 use lib.ListN.{length, get_or}
 use lib.Dec.{eqb, ltb}
-use borrow.Author.Tests.{eq-eqb, ne_eqb, le-leb, lt-leb, lt-ltb, le-ltb}
+use borrow.Author.Tests.{eq-eqb, ne_eqb, le-leb, lt-leb, lt-ltb}
 use Rattle.laws.specs.Below.{mark, only, first_below, sum_below}
-use Rattle.laws.specs.Lists.{part, lower_by, lower_at}
-use Rattle.laws.proofs.Tests.{by_test, by_lt, climb}
+use Rattle.laws.specs.Lists.{lower_by, lower_at}
+use Rattle.laws.proofs.Tests.{by_test, climb}
 use Rattle.laws.proofs.Below.{first_below-only, sum_below_next}
-use Rattle.laws.proofs.Lists.{length-part_of, lower_by_none, lower_by_same, lower_by_more, length-lower_by}
-use Rattle.extents.specs.declared.Extent.{Extent}
+use Rattle.laws.proofs.Lists.{lower_by_none, lower_by_same, lower_by_more, length-lower_by}
 use Rattle.paper.specs.Timetable.{Route, stop_at, arrive_at}
 use Rattle.paper.specs.Rows.{label, boards, ride_on}
 use Rattle.paper.specs.Work.{first_caught, caught, cost_at, look_cost}
 use Rattle.paper.proofs.Steps.{label_read}
 use Rattle.paper.proofs.Scan.{Orderly, scan_at, caught_le}
 use Rattle.paper.proofs.WorkLimit.{looks_le}
-use Rattle.scan.specs.Look.{catches, Boardable, Boarded, route_from, Scannable, Looked, route_at, Standing}
+use Rattle.scan.specs.Look.{catches, Boardable, Boarded, Scannable, Looked}
 use Rattle.scan.proofs.Scan.{first_below-min, scan_to, caught_next, scan_to_one, scan_to_at, scan_to_off, scan_to_all}
 
 -- the event of trip j < c at position i < n stands in a table of the first c trips
@@ -47,19 +46,6 @@ module _ (departures : List ℕ) (n i c at : ℕ) where
     pub counted : work + k ≡ c
     pub caught_all : (j : ℕ) → k ≤ j → j < c → at ≤ get_or departures (j * n + i) 0
 
-  pub boarding_start : Boarding c 0
-  boarding_start = record { below = omega arith; counted = omega arith; caught_all = λ j h l. absurd (omega arith) }
-
-  pub boarding_step : (k work : ℕ) → 0 < k → Boarding k work → at ≤ get_or departures ((k - 1) * n + i) 0 → Boarding (k - 1) (work + 1)
-  boarding_step k work pos b h =
-      record {
-        below = omega (arith, b.below);
-        counted = omega (arith, b.counted);
-        caught_all = λ j l m. by_lt j k
-            (λ o. let z : j ≡ k - 1 = omega arith in rw z h)
-            (λ o. b.caught_all j o m);
-      }
-
   module _ (there : at ≡ mark → ⊥) (k work : ℕ) (b : Boarding k work) where
     off : eqb at mark ≡ false
     off = ne_eqb at mark there
@@ -68,9 +54,10 @@ module _ (departures : List ℕ) (n i c at : ℕ) where
     caught_from j h l = rw off (le-leb at (get_or departures (j * n + i) 0) (b.caught_all j h l))
 
     -- the trip before k is before `at`
-    pub board_stop_lem : Boardable departures n i c → 0 < k → get_or departures ((k - 1) * n + i) 0 < at → Boarded departures n i c at k (work + 1)
+    pub board_stop_lem : Boardable departures n i c → 0 < k → get_or departures ((k - 1) * n + i) 0 < at → Boarded departures n i c at (k - 1 + 1) (work + 1)
     board_stop_lem pre pos stop =
-        record {
+        let z : k - 1 + 1 ≡ k = omega arith in
+        rw z record {
           trip_is = sym (first_below-only c (catches departures n i at) k b.below
               (λ j l. rw off (lt-leb at (get_or departures (j * n + i) 0)
               (let r = climb (λ t. get_or departures (t * n + i) 0) c pre.rises j (k - 1) (omega arith) (omega (arith, b.below)) in omega arith)))
@@ -79,14 +66,11 @@ module _ (departures : List ℕ) (n i c at : ℕ) where
         }
 
     -- every trip below c is caught
-    pub board_all : k ≤ 0 → Boarded departures n i c at k work
+    pub board_all : k ≤ 0 → Boarded departures n i c at 0 work
     board_all none =
-        let z : k ≡ 0 = omega arith in
         record {
-          trip_is = sym (first_below-only c (catches departures n i at) k b.below
-              (λ j l. absurd (omega arith))
-              (λ l. caught_from k (omega arith) l));
-          work_is = rw (off, le-ltb 0 k none) (omega (arith, b.counted));
+          trip_is = sym (first_below-only c (catches departures n i at) 0 (omega arith) (λ j l. absurd (omega arith)) (λ l. caught_from 0 none l));
+          work_is = rw off (omega (arith, b.counted));
         }
 
   -- each trip is compared once at most, and one more
@@ -197,21 +181,3 @@ module _ (R : Route) (row reach₀ : List ℕ) where
           reach_is = sc.reach_is ∙ lower_by_same (scan_to R row (i + 1)) (ride_on R row) reach₀ (λ s l. rw z (scan_to_all R row orderly s));
           work_is = rw y at sc.work_is;
         }
-
--- ---- look_at
-
--- the lent parts make the route
-module _ {x : Extent} {t2 t3 t4 : List ℕ} {row reach : ℕ} (st : Standing x t2 t3 t4 row reach) where
-  cut_is :
-      route_from (part x.first (x.first + x.n) t2) (part x.event (x.event + x.n * x.m) t3) (part x.event (x.event + x.n * x.m) t4) x.m
-      ≡ route_at x t2 t3 t4
-  cut_is = rw (length-part_of t2 x.first x.n st.positions_in)
-
-  pub cut_scannable : Scannable (route_from (part x.first (x.first + x.n) t2) (part x.event (x.event + x.n * x.m) t3) (part x.event (x.event + x.n * x.m) t4) x.m) row reach
-  cut_scannable = rw cut_is st.scannable
-
-  pub cut_looked :
-      {row reach reach' : List ℕ} {work : ℕ}
-      → Looked (route_from (part x.first (x.first + x.n) t2) (part x.event (x.event + x.n * x.m) t3) (part x.event (x.event + x.n * x.m) t4) x.m) row reach reach' work
-      → Looked (route_at x t2 t3 t4) row reach reach' work
-  cut_looked h = rw cut_is at h

@@ -17,8 +17,8 @@ use Rattle.extents.specs.declared.Extent.{Extent}
 use Rattle.scan.specs.Look.{route_at, Scannable, Looked, Standing, ride_below, looks_below, Rideable, Ridden}
 use Rattle.paper.proofs.WorkLimit.{looks_le as looks-most}
 
-pub record Riding (T : Tables) (count : ℕ) (row reach₀ reach : List ℕ) (work r : ℕ) : Type 0 where
-  pub below : r ≤ count
+pub record Riding (T : Tables) (row reach₀ reach : List ℕ) (work r : ℕ) : Type 0 where
+  pub below : r ≤ T.routes
   pub reach_is : reach ≡ lower_by (ride_below T r row) reach₀
   pub work_is : work ≡ looks_below T r row
 
@@ -35,24 +35,24 @@ sum_most (suc k) f most h =
     let s = h k (omega arith) in
     omega (arith, suc-mul k most)
 
-module _ (T : Tables) (count : ℕ) (row reach₀ : List ℕ) where
-  pub riding_start : ((s : ℕ) → s < length reach₀ → get_or reach₀ s 0 ≤ mark) → Riding T count row reach₀ reach₀ 0 0
+module _ (T : Tables) (row reach₀ : List ℕ) where
+  pub riding_start : ((s : ℕ) → s < length reach₀ → get_or reach₀ s 0 ≤ mark) → Riding T row reach₀ reach₀ 0 0
   unfolding ride_below looks_below min_below sum_below
   riding_start small = record { below = omega arith; reach_is = lower_by_none (ride_below T 0 row) reach₀ 0 (λ s l. refl) small; work_is = refl }
 
-  module _ (pre : Rideable T count (length row) (length reach₀)) where
-    pub looks_le : (r : ℕ) → r ≤ count → looks_below T r row ≤ r * 576
+  module _ (pre : Rideable T (length row) (length reach₀)) where
+    pub looks_le : (r : ℕ) → r ≤ T.routes → looks_below T r row ≤ r * 576
     unfolding looks_below
     looks_le r h = sum_most r (λ r. look_cost (route_of T r) row) 576 (λ i l. unfold route_of in look_le (route_of T i) row (pre.standing i (omega arith)).scannable)
 
-    module _ {reach : List ℕ} {work r : ℕ} (ri : Riding T count row reach₀ reach work r) where
+    module _ {reach : List ℕ} {work r : ℕ} (ri : Riding T row reach₀ reach work r) where
       pub reach_long : length reach ≡ length reach₀
       reach_long = ap length ri.reach_is ∙ length-lower_by (ride_below T r row) reach₀
 
-      pub stands : {x : Extent} → r < count → x ≡ extent_of T.t1 r → Standing x T.t2 T.t3 T.t4 (length row) (length reach)
+      pub stands : {x : Extent} → r < T.routes → x ≡ extent_of T.t1 r → Standing x T.t2 T.t3 T.t4 (length row) (length reach)
       stands h e = rw (e, reach_long) (pre.standing r h)
 
-      module _ {reach' : List ℕ} {w : ℕ} {x : Extent} (h : r < count) (e : x ≡ extent_of T.t1 r) (looked : Looked (route_at x T.t2 T.t3 T.t4) row reach reach' w) where
+      module _ {reach' : List ℕ} {w : ℕ} {x : Extent} (h : r < T.routes) (e : x ≡ extent_of T.t1 r) (looked : Looked (route_at x T.t2 T.t3 T.t4) row reach reach' w) where
         l : Looked (route_of T r) row reach reach' w
         unfolding route_of
         l = rw e at looked
@@ -71,8 +71,8 @@ module _ (T : Tables) (count : ℕ) (row reach₀ : List ℕ) where
             ∙ lower_by_twice (ride_below T r row) (ride_on (route_of T r) row) reach₀
             ∙ lower_by_same _ (ride_below T (r + 1) row) reach₀ (λ s o. sym (min_below_next r (λ r. ride_on (route_of T r) row s)))
 
-        pub riding_step : Riding T count row reach₀ reach' (work + w) (r + 1)
+        pub riding_step : Riding T row reach₀ reach' (work + w) (r + 1)
         riding_step = record { below = omega arith; reach_is = reach_next; work_is = work_next }
 
-      pub riding_end : count ≤ r → Ridden T count row reach₀ reach work
-      riding_end h = let z : r ≡ count = omega (arith, ri.below) in record { reach_is = rw z at ri.reach_is; work_is = rw z at ri.work_is }
+      pub riding_end : T.routes ≤ r → Ridden T row reach₀ reach work
+      riding_end h = let z : r ≡ T.routes = omega (arith, ri.below) in record { reach_is = rw z at ri.reach_is; work_is = rw z at ri.work_is }

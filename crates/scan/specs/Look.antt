@@ -1,9 +1,10 @@
 -- One look at a route: what it asks of the tables, and what it leaves.
-use Rattle.std.specs.Prelude.{◌≡◌, Bool, not, cond, ◌&&◌, List, [], ℕ, ◌+◌, ◌-◌, ◌*◌, ◌≤◌, ◌<◌, eqb, leb, ltb, length, get_or}
+use Rattle.std.specs.Prelude.{◌≡◌, Bool, not, cond, ◌&&◌, List, ℕ, ◌+◌, ◌-◌, ◌*◌, ◌≤◌, ◌<◌, eqb, leb, ltb, length, get_or}
 use Rattle.laws.specs.Below.{mark, min_below, first_below, sum_below}
 use Rattle.laws.specs.Lists.{part, lower_by}
 use Rattle.extents.specs.Extent.{extent_of}
 use Rattle.extents.specs.declared.Extent.{Extent}
+use Rattle.scan.specs.declared.routes.Parts.{Parts}
 use Rattle.paper.specs.Timetable.{Tables, Route, route_of, stop_at, arrive_at, depart_at}
 use Rattle.paper.specs.Rows.{ride_on}
 use Rattle.paper.specs.Work.{look_cost}
@@ -37,6 +38,10 @@ pub record Landing (arrivals : List ℕ) (n m i : ℕ) : Type 0 where
 abbrev pub route_from : List ℕ → List ℕ → List ℕ → ℕ → Route
 route_from stops arrivals departures m =
     record { n = length stops; m = m; stops = stops; arrivals = arrivals; departures = departures }
+
+-- the same of the code's parts
+abbrev pub cut : Parts → Route
+cut x = route_from x.stops.now x.arrivals.now x.departures.now x.trips
 
 -- what a look asks: sizes, stop numbers within a row of this length and within `reach`, and that no trip overtakes the one before it
 pub record Scannable (R : Route) (row reach : ℕ) : Type 0 where
@@ -76,10 +81,6 @@ pub record Standing (x : Extent) (t2 t3 t4 : List ℕ) (row reach : ℕ) : Type 
   pub departures_in : x.event + x.n * x.m ≤ length t4
   pub scannable : Scannable (route_at x t2 t3 t4) row reach
 
--- the routes alone: what a ride asks of the timetable
-abbrev pub routes_in : List ℕ → List ℕ → List ℕ → List ℕ → Tables
-routes_in t1 t2 t3 t4 = record { stops = 0; routes = 0; walks = 0; t1 = t1; t2 = t2; t3 = t3; t4 = t4; t5 = [] }
-
 -- the earliest arrival at stop s by one ride on a route below k, and what a look at these routes costs
 unfoldable pub ride_below : Tables → ℕ → List ℕ → ℕ → ℕ
 ride_below T k row s = min_below k λ r. ride_on (route_of T r) row s
@@ -87,11 +88,11 @@ ride_below T k row s = min_below k λ r. ride_on (route_of T r) row s
 unfoldable pub looks_below : Tables → ℕ → List ℕ → ℕ
 looks_below T k row = sum_below k λ r. look_cost (route_of T r) row
 
-pub record Rideable (T : Tables) (count row reach : ℕ) : Type 0 where
-  pub few : count ≤ 64
-  pub heads : count * 4 ≤ length T.t1
-  pub standing : (r : ℕ) → r < count → Standing (extent_of T.t1 r) T.t2 T.t3 T.t4 row reach
+pub record Rideable (T : Tables) (row reach : ℕ) : Type 0 where
+  pub few : T.routes ≤ 64
+  pub heads : T.routes * 4 ≤ length T.t1
+  pub standing : (r : ℕ) → r < T.routes → Standing (extent_of T.t1 r) T.t2 T.t3 T.t4 row reach
 
-pub record Ridden (T : Tables) (count : ℕ) (row reach₀ reach : List ℕ) (work : ℕ) : Type 0 where
-  pub reach_is : reach ≡ lower_by (ride_below T count row) reach₀
-  pub work_is : work ≡ looks_below T count row
+pub record Ridden (T : Tables) (row reach₀ reach : List ℕ) (work : ℕ) : Type 0 where
+  pub reach_is : reach ≡ lower_by (ride_below T T.routes row) reach₀
+  pub work_is : work ≡ looks_below T T.routes row

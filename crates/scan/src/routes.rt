@@ -2,10 +2,11 @@
 ghost use Rattle.std.specs.Prelude.{◌≡◌, ◌+◌, ◌*◌, ◌<◌, length, get_or, ltb};
 ghost use Rattle.laws.specs.Below.{only};
 ghost use Rattle.laws.specs.Lists.{lower_at};
-ghost use Rattle.scan.specs.Look.{Boardable, Boarded, Landing, route_from, Scannable, Looked, route_at, Standing, routes_in, Rideable, Ridden};
+ghost use Rattle.paper.specs.Timetable.{lent};
+ghost use Rattle.scan.specs.Look.{Boardable, Boarded, Landing, cut, Scannable, Looked, route_at, Standing, Rideable, Ridden};
 
 use extents::{Extent, extent_of};
-use paper::MARK;
+use paper::{Lent, MARK};
 
 // The trip that is caught after a position, and the departures compared there.
 #[derive(Clone, Copy)]
@@ -19,30 +20,18 @@ fn board(departures: &[u32], n: usize, i: usize, c: usize, at: u32) -> Caught
     requires { Boardable departures.now n i c }
     ensures { Boarded departures.now n i c at result.trip result.work }
 {
-    let mut k = c;
-    let mut work: u32 = 0;
     if at == MARK {
-        return Caught {
-            trip: k,
-            work: work,
-        };
+        return Caught { trip: c, work: 0 };
     }
-    while 0 < k {
-        let j = k - 1;
+    let mut work: u32 = 0;
+    for j in (0..c).rev() {
         let cell = j * n + i;
         work += 1;
         if departures[cell] < at {
-            return Caught {
-                trip: k,
-                work: work,
-            };
+            return Caught { trip: j + 1, work };
         }
-        k = j;
     }
-    Caught {
-        trip: k,
-        work: work,
-    }
+    Caught { trip: 0, work }
 }
 
 // The arrival of trip c at position i, or the mark if there is no such trip.
@@ -67,80 +56,62 @@ pub fn lower(row: &mut [u32], s: usize, t: u32)
     }
 }
 
+// A route cut out of tables 2 to 4, with its number of trips.
+#[derive(Clone, Copy)]
+struct Parts<'a> {
+    stops: &'a [u32],
+    arrivals: &'a [u32],
+    departures: &'a [u32],
+    trips: usize,
+}
+
 // One look at a route: lowers `reach` to the earliest arrivals by a ride on it, boarded where `row` permits it.
-fn look(
-    stops: &[u32],
-    arrivals: &[u32],
-    departures: &[u32],
-    m: usize,
-    row: &[u32],
-    reach: &mut [u32],
-) -> u32
-    requires { Scannable (route_from stops.now arrivals.now departures.now m) (length row.now) (length reach.old) }
-    ensures { Looked (route_from stops.now arrivals.now departures.now m) row.now reach.old reach.new result }
+fn look(route: Parts, row: &[u32], reach: &mut [u32]) -> u32
+    requires { Scannable (cut route) (length row.now) (length reach.old) }
+    ensures { Looked (cut route.entry) row.now reach.old reach.new result }
 {
-    let n = stops.len();
+    let n = route.stops.len();
     let last = n - 1;
-    let mut c = m;
+    let mut c = route.trips;
     let mut work: u32 = 0;
-    let mut i = 0;
-    while i < last {
-        let here = stops[i] as usize;
-        let caught = board(departures, n, i, c, row[here]);
+    for i in 0..last {
+        let here = route.stops[i] as usize;
+        let caught = board(route.departures, n, i, c, row[here]);
         c = caught.trip;
         work += caught.work;
-        i += 1;
-        let next = stops[i] as usize;
-        lower(reach, next, arrival(arrivals, n, m, c, i));
+        let k = i + 1;
+        let next = route.stops[k] as usize;
+        lower(reach, next, arrival(route.arrivals, n, route.trips, c, k));
     }
     work
 }
 
 // The look at the route of this extent in the tables.
-fn look_at(
-    positions: &[u32],
-    arrivals: &[u32],
-    departures: &[u32],
-    route: Extent,
-    row: &[u32],
-    reach: &mut [u32],
-) -> u32
-    requires { Standing route positions.now arrivals.now departures.now (length row.now) (length reach.old) }
-    ensures { Looked (route_at route positions.now arrivals.now departures.now) row.now reach.old reach.new result }
+fn look_at(tables: Lent, x: Extent, row: &[u32], reach: &mut [u32]) -> u32
+    requires { Standing x tables.positions.now tables.arrivals.now tables.departures.now (length row.now) (length reach.old) }
+    ensures { Looked (route_at x tables.entry.positions.now tables.entry.arrivals.now tables.entry.departures.now) row.now reach.old reach.new result }
 {
-    let n = route.n as usize;
-    let m = route.m as usize;
-    let first = route.first;
-    let event = route.event;
-    let past = first + n;
-    let end = event + n * m;
-    look(
-        &positions[first..past],
-        &arrivals[event..end],
-        &departures[event..end],
-        m,
-        row,
-        reach,
-    )
+    let n = x.n as usize;
+    let trips = x.m as usize;
+    let past = x.first + n;
+    let end = x.event + n * trips;
+    let route = Parts {
+        stops: &tables.positions[x.first..past],
+        arrivals: &tables.arrivals[x.event..end],
+        departures: &tables.departures[x.event..end],
+        trips,
+    };
+    look(route, row, reach)
 }
 
 // Every route is looked at once: lowers `reach` to the earliest arrivals by one ride.
-pub fn ride(
-    count: u32,
-    routes: &[u32],
-    positions: &[u32],
-    arrivals: &[u32],
-    departures: &[u32],
-    row: &[u32],
-    reach: &mut [u32],
-) -> u32
-    requires { Rideable (routes_in routes.now positions.now arrivals.now departures.now) count (length row.now) (length reach.old) }
-    ensures { Ridden (routes_in routes.now positions.now arrivals.now departures.now) count row.now reach.old reach.new result }
+pub fn ride(tables: Lent, row: &[u32], reach: &mut [u32]) -> u32
+    requires { Rideable (lent tables) (length row.now) (length reach.old) }
+    ensures { Ridden (lent tables.entry) row.now reach.old reach.new result }
 {
     let mut work: u32 = 0;
-    for r in 0..count {
-        let route = extent_of(routes, r);
-        work += look_at(positions, arrivals, departures, route, row, reach);
+    for r in 0..tables.heads.routes {
+        work += look_at(tables, extent_of(tables.routes, r), row, reach);
     }
     work
 }

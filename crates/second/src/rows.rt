@@ -1,83 +1,44 @@
 // Labels: for every number of rides and every stop the earliest arrival over all journeys, each of which is tried.
-use crate::steps::of_step;
-use crate::tables::{MARK, at, label, smaller};
-use paper::Question;
+use crate::steps::Step;
+use paper::{Entry, MARK, Question};
 
-// The journey that stays at the stop. Only the first sixteen stops are kept.
-fn staying(stop: u32, time: u32) -> [u32; 16] {
-    let mut row = [4294967295u32; 16];
-    if stop < 16 {
-        row[stop as usize] = time;
+// What a row has for a stop: past its end the mark.
+pub fn at(row: &[u32; 256], stop: u32) -> u32 {
+    row.get(stop as usize).copied().unwrap_or(MARK)
+}
+
+// Puts into a row the arrivals that are earlier than its own, of all journeys of at most so many rides that
+// begin at the stop at this time: of the one that stays, and of each step followed by each journey of one
+// ride less.
+fn try_all(row: &mut [u32; 256], steps: &[Step], rides: u32, stop: u32, time: u32) {
+    if let Some(earliest) = row.get_mut(stop as usize) {
+        *earliest = time.min(*earliest);
     }
-    row
-}
-
-// The earlier of two arrivals at each stop.
-fn earlier(a: [u32; 16], b: [u32; 16]) -> [u32; 16] {
-    let mut row = a;
-    for s in 0..16 {
-        row[s] = smaller(a[s], b[s]);
-    }
-    row
-}
-
-// May a traveller who is at the stop at this time take step s?
-fn boards(steps: &[u32], s: u32, stop: u32, time: u32) -> bool {
-    (of_step(steps, s, 0) == stop) & (time <= of_step(steps, s, 1))
-}
-
-// The earliest arrivals over all journeys of at most so many rides that begin at the stop at this time: the one that stays, and each step followed by each
-// journey of one ride less.
-fn earliest(steps: &[u32], rides: u32, stop: u32, time: u32) -> [u32; 16] {
-    let mut row = staying(stop, time);
     if rides == 0 {
-        return row;
+        return;
     }
-    let count = at(steps, 0);
-    for s in 0..count {
-        if boards(steps, s, stop, time) {
-            let to = of_step(steps, s, 2);
-            let arrival = of_step(steps, s, 3);
-            let least = earlier(row, earliest(steps, rides - 1, to, arrival));
-            row = least;
+    for step in steps {
+        if step.from == stop && time <= step.departs {
+            try_all(row, steps, rides - 1, step.to, step.arrives);
         }
     }
-    row
 }
 
-// Row k: above the ride limit it holds the mark.
-fn row_of(steps: &[u32], q: Question, k: u32) -> [u32; 16] {
-    if q.limit < k {
-        return [4294967295u32; 16];
+// Rows above the ride limit hold the mark.
+pub fn rows_of(steps: &[Step], q: Question) -> [[u32; 256]; 9] {
+    let mut rows = [[MARK; 256]; 9];
+    for (rides, row) in (0..=q.limit).zip(rows.iter_mut()) {
+        try_all(row, steps, rides, q.start, q.time);
     }
-    earliest(steps, k, q.start, q.time)
+    rows
 }
 
-// The labels with row k set.
-fn with_row(mut labels: [u32; 2304], k: usize, row: [u32; 16]) -> [u32; 2304] {
-    let first = k % 9 * 256;
-    for s in 0..16 {
-        labels[first + s] = row[s];
+// The entry of so many rides, if their row is earlier at the target than every row before it.
+pub fn entry_of(rows: &[[u32; 256]; 9], rides: u32, target: u32) -> Option<Entry> {
+    let (before, rest) = rows.split_at_checked(rides as usize)?;
+    let arrival = at(rest.first()?, target);
+    if arrival == MARK || before.iter().any(|row| at(row, target) <= arrival) {
+        return None;
     }
-    labels
-}
-
-pub fn labels_of(steps: &[u32], q: Question) -> [u32; 2304] {
-    let mut labels = [4294967295u32; 2304];
-    for k in 0..9 {
-        let more = with_row(labels, k as usize, row_of(steps, q, k));
-        labels = more;
-    }
-    labels
-}
-
-// Is row k earlier at the target than every row before it?
-pub fn is_entry(labels: &[u32], k: u32, target: u32) -> bool {
-    let arrival = label(labels, k, target);
-    for j in 0..k {
-        if label(labels, j, target) <= arrival {
-            return false;
-        }
-    }
-    arrival != MARK
+    Some(Entry { rides, arrival })
 }

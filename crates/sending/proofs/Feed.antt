@@ -9,14 +9,16 @@ use Rattle.laws.specs.Below.{sum_below}
 use Rattle.laws.specs.Lists.{part}
 use Rattle.laws.proofs.Below.{sum_below_same}
 use Rattle.laws.proofs.Lists.{length-pieces-sum, get_d_part}
-use Rattle.paper.specs.Timetable.{Tables, tables, n_of, m_of, first_position, first_event, route_of}
-use Rattle.paper.specs.Feed.{trip_bytes, route_bytes, routes_bytes, walk_bytes, walks_bytes, size_of, summed, fletcher_of, feed_of}
-use Rattle.paper.specs.declared.Heads.{Heads}
+use Rattle.paper.specs.Timetable.{Tables, lent, n_of, m_of, first_position, first_event, route_of}
+use Rattle.paper.specs.Feed.{route_bytes, routes_bytes, walks_bytes, size_of, summed, fletcher_of, feed_of}
+use Rattle.paper.specs.declared.Lent.{Lent}
 use Rattle.paper.specs.Rules.{Fit}
 use Rattle.paper.proofs.RouteEnds.{route_positions, head_in, positions_in, arrivals_in, departures_in}
 use Rattle.paper.proofs.Written.{length_route, length_walks, size_is, longest}
-use Rattle.sending.specs.Puts.{Puts, of_routes, of_walks, RouteFits, RoutesRoom, WalkFits, WalksRoom, head_of, HeadFits, end_of, route_size, size_by, SizeFits, FeedFits}
-use Rattle.sending.proofs.Sent.{puts_length, puts_take, puts_then, puts_same}
+use Rattle.lettering.specs.Put.{HasRoom}
+use Rattle.lettering.specs.declared.Pen.{Pen}
+use Rattle.sending.specs.Puts.{Sent, RouteFits, RoutesRoom, WalkFits, WalksRoom, head_of, HeadFits, end_of, route_size, size_by, SizeFits, FeedFits}
+use Rattle.sending.proofs.Sent.{puts_take, sent_length, sent_then, sent_same}
 
 -- ---- what a sound timetable's numbers fit
 
@@ -34,7 +36,7 @@ module _ (n m : ℕ) (t : List ℕ) (v bound : ℕ) (some : 0 < n)
       rw g at (rw e at h)
 
 module _ {T : Tables} (w : Fit T) where
-  pub route_fits : (r : ℕ) → r < T.routes → RouteFits (of_routes T.t1 T.t2 T.t3 T.t4) r
+  pub route_fits : (r : ℕ) → r < T.routes → RouteFits T r
   unfolding route_of
   route_fits r l =
       let c = w.sound.route r l in
@@ -58,7 +60,7 @@ module _ {T : Tables} (w : Fit T) where
         };
       }
 
-  pub walk_fits : (k : ℕ) → k < T.walks → WalkFits (of_walks T.t5) k
+  pub walk_fits : (k : ℕ) → k < T.walks → WalkFits T k
   walk_fits k l =
       let c = w.sound.walk k l in
       record {
@@ -68,7 +70,7 @@ module _ {T : Tables} (w : Fit T) where
         seconds< = omega (arith, c.seconds≤);
       }
 
-  pub size_fits : SizeFits (of_routes T.t1 [] [] []) T.routes T.walks
+  pub size_fits : SizeFits T T.routes T.walks
   size_fits =
       record {
         rows = omega (arith, w.sound.routes≤, w.routes_room);
@@ -79,11 +81,11 @@ module _ {T : Tables} (w : Fit T) where
 
   -- ---- the size
 
-  pub size_by_lem : size_by (of_routes T.t1 [] [] []) T.routes T.walks ≡ size_of T
+  pub size_by_lem : size_by T T.routes T.walks ≡ size_of T
   unfolding size_by size_of routes_bytes route_size
   size_by_lem =
-      let s : sum_below T.routes (λ r. length (route_bytes T r)) ≡ sum_below T.routes (route_size (of_routes T.t1 [] [] []))
-      = sum_below_same T.routes (λ r. length (route_bytes T r)) (route_size (of_routes T.t1 [] [] []))
+      let s : sum_below T.routes (λ r. length (route_bytes T r)) ≡ sum_below T.routes (route_size T)
+      = sum_below_same T.routes (λ r. length (route_bytes T r)) (route_size T)
       (λ r l. length_route T r (positions_in T w r l)) in
       omega (arith, s, length-pieces-sum T.routes (route_bytes T), length_walks T T.walks)
 
@@ -92,66 +94,49 @@ module _ {T : Tables} (w : Fit T) where
 
 -- ---- its parts
 
-module _ {h : Heads} {t1 t2 t3 t4 t5 out : List ℕ} {size : ℕ} (pre : FeedFits (tables h t1 t2 t3 t4 t5) size out) where
+feed_room : {T : Tables} {size : ℕ} {out : List ℕ} → FeedFits T size out → 13 + length (routes_bytes T T.routes) + length (walks_bytes T T.walks) ≤ length out
+unfolding size_of
+feed_room pre = omega (arith, pre.room, pre.is)
+
+pub can_head : (x : Lent) {size : ℕ} {p : Pen} → FeedFits (lent x) size p.out.now → p.at ≡ 0 → HeadFits x.heads size p
+can_head x pre start =
+    record {
+      stops≥ = pre.fit.sound.stops≥;
+      stops≤ = pre.fit.sound.stops≤;
+      routes≤ = pre.fit.sound.routes≤;
+      walks≤ = pre.fit.sound.walks≤;
+      size< = omega (arith, pre.is, size_small pre.fit);
+      room = omega (arith, feed_room pre, start);
+    }
+
+module _ (x : Lent) {size : ℕ} (p : Pen) (pre : FeedFits (lent x) size p.out.now) (start : p.at ≡ 0) where
   abbrev T : Tables
-  T = tables h t1 t2 t3 t4 t5
+  T = lent x
 
-  abbrev routes_part : List ℕ
-  routes_part = routes_bytes (of_routes t1 t2 t3 t4) h.routes
+  pub can_routes : {q : Pen} → Sent (head_of x.heads size) p q → RoutesRoom T T.routes q
+  can_routes s = record { fits = route_fits pre.fit; room = omega (arith, feed_room pre, start, s.puts.next, sent_length s) }
 
-  abbrev walks_part : List ℕ
-  walks_part = walks_bytes (of_walks t5) h.walks
+  pub can_walks : {q : Pen} → Sent (head_of x.heads size ++ routes_bytes T T.routes) p q → WalksRoom T T.walks q
+  can_walks s = record { fits = walk_fits pre.fit; room = omega (arith, feed_room pre, start, s.puts.next, sent_length s) }
 
-  same_routes : routes_part ≡ routes_bytes T h.routes
-  unfolding routes_bytes route_bytes trip_bytes
-  same_routes = refl
-
-  same_walks : walks_part ≡ walks_bytes T h.walks
-  unfolding walks_bytes walk_bytes
-  same_walks = refl
-
-  room : 13 + length routes_part + length walks_part ≤ length out
-  unfolding size_of
-  room = omega (arith, pre.room, pre.is, ap length same_routes, ap length same_walks)
-
-  pub can_head : HeadFits h size out
-  can_head =
-      record {
-        stops≥ = pre.fit.sound.stops≥;
-        stops≤ = pre.fit.sound.stops≤;
-        routes≤ = pre.fit.sound.routes≤;
-        walks≤ = pre.fit.sound.walks≤;
-        size< = omega (arith, pre.is, size_small pre.fit);
-        room = omega (arith, room);
-      }
-
-  pub can_routes : {q : ℕ} {o : List ℕ} → Puts (head_of h size) 0 out q o → RoutesRoom (of_routes t1 t2 t3 t4) h.routes q o
-  can_routes s = record { fits = route_fits pre.fit; room = omega (arith, room, s.next, puts_length s) }
-
-  pub can_walks : {q : ℕ} {o : List ℕ} → Puts (head_of h size ++ routes_part) 0 out q o → WalksRoom (of_walks t5) h.walks q o
-  can_walks s =
-      record { fits = walk_fits pre.fit; room = omega (arith, room, s.next, puts_length s, length-append (head_of h size) routes_part) }
-
-  pub can_end : {q : ℕ} {o : List ℕ} → Puts (head_of h size ++ (routes_part ++ walks_part)) 0 out q o → q + 4 ≤ length o
-  can_end s =
-      omega (arith, room, s.next, puts_length s, length-append (head_of h size) (routes_part ++ walks_part), length-append routes_part walks_part)
+  pub can_end : {q : Pen} → Sent (head_of x.heads size ++ (routes_bytes T T.routes ++ walks_bytes T T.walks)) p q → HasRoom 4 q
+  can_end s = omega (arith, feed_room pre, start, s.puts.next, sent_length s, length-append (routes_bytes T T.routes) (walks_bytes T T.walks))
 
   -- the end record behind all the others makes the feed
-  pub feed_end : {q r : ℕ} {o o' : List ℕ} → Puts (head_of h size ++ (routes_part ++ walks_part)) 0 out q o → Puts (end_of (take q o)) q o r o'
-      → Puts (feed_of T) 0 out r o'
+  pub feed_end : {q r : Pen} → Sent (head_of x.heads size ++ (routes_bytes T T.routes ++ walks_bytes T T.walks)) p q → Sent (end_of (take q.at q.out.now)) q r
+      → Sent (feed_of T) p r
   unfolding feed_of summed
-  feed_end {q} {o = o} x y =
-      let front : List ℕ = head_of h size ++ (routes_part ++ walks_part) in
+  feed_end {q} a b =
+      let front : List ℕ = head_of x.heads size ++ (routes_bytes T T.routes ++ walks_bytes T T.walks) in
       let mark : List ℕ = 0x45 ∷ 0x44 ∷ [] in
-      let t : take q o ≡ front = puts_take x in
+      let t : take q.at q.out.now ≡ front = puts_take a.puts ∙ rw start refl in
       let s : front ++ mark ≡ summed T
-      = append_assoc (head_of h size) (routes_part ++ walks_part) mark
-      ∙ ap (λ (z : List ℕ). head_of h size ++ z) (append_assoc routes_part walks_part mark)
-      ∙ (λ i. head_of h (pre.is i) ++ (same_routes i ++ (same_walks i ++ mark))) in
-      let e : end_of (take q o) ≡ mark ++ ((fletcher_of (summed T)).first ∷ (fletcher_of (summed T)).second ∷ [])
+      = append_assoc (head_of x.heads size) (routes_bytes T T.routes ++ walks_bytes T T.walks) mark
+      ∙ ap (λ (z : List ℕ). head_of x.heads size ++ z) (append_assoc (routes_bytes T T.routes) (walks_bytes T T.walks) mark)
+      ∙ ap (λ (k : ℕ). head_of x.heads k ++ (routes_bytes T T.routes ++ (walks_bytes T T.walks ++ mark))) pre.is in
+      let last : List ℕ = (fletcher_of (summed T)).first ∷ (fletcher_of (summed T)).second ∷ [] in
+      let e : end_of (take q.at q.out.now) ≡ mark ++ last
       = ap end_of t ∙ (λ i. 0x45 ∷ 0x44 ∷ (fletcher_of (s i)).first ∷ (fletcher_of (s i)).second ∷ []) in
-      puts_same
-      (ap (λ (z : List ℕ). front ++ z) e
-      ∙ sym (append_assoc front mark ((fletcher_of (summed T)).first ∷ (fletcher_of (summed T)).second ∷ []))
-      ∙ ap (λ (z : List ℕ). z ++ ((fletcher_of (summed T)).first ∷ (fletcher_of (summed T)).second ∷ [])) s)
-      (puts_then x y)
+      sent_same
+      (ap (λ (z : List ℕ). front ++ z) e ∙ sym (append_assoc front mark last) ∙ ap (λ (z : List ℕ). z ++ last) s)
+      (sent_then a b)

@@ -5,49 +5,34 @@ use Prim.Native.Nat.{ℕ, ◌+◌, ◌*◌, ◌≤◌, ◌<◌}
 use native.Mathlib.Nat.{mul_comm, mul-le-mul_left, mul-suc}
 use native.Mathlib.Numerals.{add-one}
 use native.Mathlib.Omega.{arith}
-use lib.ListN.{length, get_or, length-append}
+use lib.ListN.{length, length-append}
 use Rattle.laws.specs.Below.{sum_below}
 use Rattle.laws.specs.Lists.{pieces, part}
-use Rattle.laws.specs.Fields.{two_bytes, three_bytes}
+use Rattle.laws.specs.Fields.{two_bytes}
 use Rattle.laws.proofs.Tests.{cell_in, cells_most}
 use Rattle.laws.proofs.Below.{sum_below_next}
-use Rattle.laws.proofs.Lists.{length-pieces, length-part_of}
-use Rattle.paper.specs.Timetable.{Tables, n_of, m_of, first_position, first_event, walk_from, walk_to, walk_seconds}
-use Rattle.paper.specs.Feed.{trip_bytes, route_bytes, walk_bytes}
-use Rattle.sending.specs.Puts.{Puts, CanPutField, Small, StopsFit, TripFits, TripsFit, RouteRoom, WalkRoom, of_times, of_routes, of_walks, route_size, RouteSmall, size_by, SizeFits}
-use Rattle.sending.proofs.Sent.{puts_length, puts_then, Sending, sending_start, sending_end, pieces-part}
-
--- ---- stops
-
-abbrev pub stop_byte : List ℕ → ℕ → ℕ → List ℕ
-stop_byte p from i = get_or p (from + i) 0 ∷ []
-
-pub stops_start : {p : List ℕ} {from n at : ℕ} {out : List ℕ} → StopsFit p from n at out → Sending (stop_byte p from) n at out 0 at out
-stops_start {p} {from} {n} pre =
-    sending_start (stop_byte p from) n (omega (arith, pre.room, length-pieces n (stop_byte p from) 1 (λ i l. refl)))
-
-pub stops_end : {p : List ℕ} {from n at i q : ℕ} {out o : List ℕ} → StopsFit p from n at out → Sending (stop_byte p from) n at out i q o → n ≤ i
-    → Puts (part from (from + n) p) at out q o
-stops_end {p} {from} {n} pre h l = rw (pieces-part p from n pre.stops.there) at (sending_end h l)
+use Rattle.laws.proofs.Lists.{length-part_of, get_d_part}
+use Rattle.paper.specs.Timetable.{Tables, n_of, m_of, first_position, first_event, walk_seconds}
+use Rattle.paper.specs.Feed.{event_bytes, trip_bytes, route_bytes, walk_bytes}
+use Rattle.lettering.specs.Put.{HasRoom}
+use Rattle.lettering.specs.declared.Pen.{Pen}
+use Rattle.sending.specs.Puts.{Sent, CanPutField, Small, StopsFit, TripFits, TripsFit, RouteRoom, WalkRoom, route_size, RouteSmall, size_by, SizeFits}
+use Rattle.sending.proofs.Sent.{sent_length, sent_then, Sending, sending_start, sending_end}
 
 -- ---- trips
 
-abbrev pub event_at : List ℕ → List ℕ → ℕ → ℕ → List ℕ
-event_at a d v i = three_bytes (get_or a (v + i) 0) ++ three_bytes (get_or d (v + i) 0)
-
-module _ {a d out : List ℕ} {n v at : ℕ} (pre : TripFits a d n v at out) where
-  pub trip_mark : at + 2 ≤ length out
+module _ {T : Tables} {n v : ℕ} {p : Pen} (pre : TripFits T n v p) where
+  pub trip_mark : HasRoom 2 p
   unfolding trip_bytes
   trip_mark = omega (arith, pre.room)
 
-  pub events_start : {q : ℕ} {o : List ℕ} → Puts (0x54 ∷ 0x50 ∷ []) at out q o → Sending (event_at a d v) n q o 0 q o
+  pub events_start : {q : Pen} → Sent (0x54 ∷ 0x50 ∷ []) p q → Sending (λ i. event_bytes T (v + i)) n q q 0
   unfolding trip_bytes
-  events_start h = sending_start (event_at a d v) n (omega (arith, pre.room, h.next, puts_length h))
+  events_start h = sending_start (λ i. event_bytes T (v + i)) n (omega (arith, pre.room, h.puts.next, sent_length h))
 
-  pub trip_end : {q q' i : ℕ} {o o' : List ℕ} → Puts (0x54 ∷ 0x50 ∷ []) at out q o → Sending (event_at a d v) n q o i q' o' → n ≤ i
-      → Puts (trip_bytes (of_times a d) n v) at out q' o'
-  unfolding trip_bytes
-  trip_end h s l = puts_then h (sending_end s l)
+pub trip_end : (T : Tables) (n v : ℕ) {i : ℕ} {p q r : Pen} → Sent (0x54 ∷ 0x50 ∷ []) p q → Sending (λ i. event_bytes T (v + i)) n q r i → n ≤ i → Sent (trip_bytes T n v) p r
+unfolding trip_bytes
+trip_end T n v h s l = sent_then h (sending_end s l)
 
 -- row j of a table of m rows of n
 pub row_in_lem : (n m j : ℕ) → j < m → j * n + n ≤ n * m
@@ -64,19 +49,15 @@ small_row {a} {v} {n} {m} {bound} h j l =
           rw e (h.each (j * n + i) (cell_in n m j i l k));
     }
 
-abbrev pub trip_at_row : List ℕ → List ℕ → ℕ → ℕ → ℕ → List ℕ
-trip_at_row a d n v j = trip_bytes (of_times a d) n (v + j * n)
+abbrev pub trip_at_row : Tables → ℕ → ℕ → ℕ → List ℕ
+trip_at_row T n v j = trip_bytes T n (v + j * n)
 
-pub trip_fits : {a d out o : List ℕ} {n m v at q j : ℕ} → TripsFit a d n m v at out → j < m → q + length (trip_at_row a d n v j) ≤ length o
-    → TripFits a d n (v + j * n) q o
+pub trip_fits : {T : Tables} {n m v j : ℕ} {p q : Pen} → TripsFit T n m v p → j < m → HasRoom (length (trip_at_row T n v j)) q → TripFits T n (v + j * n) q
 trip_fits {j = j} pre l room = record { arrivals = small_row pre.arrivals j l; departures = small_row pre.departures j l; room = room }
 
 -- ---- a route
 
-module _ {h p a d out : List ℕ} {r at : ℕ} (pre : RouteRoom (of_routes h p a d) r at out) where
-  abbrev T : Tables
-  T = of_routes h p a d
-
+module _ {T : Tables} {r : ℕ} {p : Pen} (pre : RouteRoom T r p) where
   abbrev n : ℕ
   n = n_of T r
 
@@ -87,57 +68,63 @@ module _ {h p a d out : List ℕ} {r at : ℕ} (pre : RouteRoom (of_routes h p a
   first = 0x52 ∷ 0x54 ∷ n ∷ two_bytes m
 
   abbrev stops : List ℕ
-  stops = part (first_position T r) (first_position T r + n) p
+  stops = part (first_position T r) (first_position T r + n) T.t2
 
   abbrev trips : List ℕ
-  trips = pieces m (trip_at_row a d n (first_event T r))
+  trips = pieces m (trip_at_row T n (first_event T r))
 
-  room : at + (5 + (n + length trips)) ≤ length out
+  long : length stops ≡ n
+  long = length-part_of T.t2 (first_position T r) n pre.fits.stops.there
+
+  room : HasRoom (5 + (n + length trips)) p
   unfolding route_bytes trip_bytes
-  room = omega (arith, pre.room, length-append stops trips, length-part_of p (first_position T r) n pre.fits.stops.there)
+  room = omega (arith, pre.room, length-append stops trips, long)
 
-  pub can_mark : at + 2 ≤ length out
-  can_mark = omega (arith, room)
+  pub route_mark : HasRoom 2 p
+  route_mark = omega (arith, room)
 
-  pub can_n : {q : ℕ} {o : List ℕ} → Puts (0x52 ∷ 0x54 ∷ []) at out q o → CanPutField n 256 q 1 o
-  can_n s = record { small = omega (arith, pre.fits.n≤); room = omega (arith, room, s.next, puts_length s) }
+  pub can_n : {q : Pen} → Sent (0x52 ∷ 0x54 ∷ []) p q → HasRoom 1 q
+  can_n s = omega (arith, room, s.puts.next, sent_length s)
 
-  pub can_m : {q : ℕ} {o : List ℕ} → Puts (0x52 ∷ 0x54 ∷ n ∷ []) at out q o → CanPutField m 65536 q 2 o
-  can_m s = record { small = omega (arith, pre.fits.m≤); room = omega (arith, room, s.next, puts_length s) }
+  pub can_m : {q : Pen} → Sent (0x52 ∷ 0x54 ∷ n ∷ []) p q → CanPutField m 65536 2 q
+  can_m s = record { small = omega (arith, pre.fits.m≤); room = omega (arith, room, s.puts.next, sent_length s) }
 
-  pub can_stops : {q : ℕ} {o : List ℕ} → Puts first at out q o → StopsFit p (first_position T r) n q o
-  can_stops s = record { stops = pre.fits.stops; room = omega (arith, room, s.next, puts_length s) }
+  pub can_stops : {q : Pen} → Sent first p q → StopsFit stops q
+  can_stops s =
+      record {
+        each = λ i l. rw (get_d_part T.t2 (first_position T r) (first_position T r + n) i 0 (omega (arith, long))) (pre.fits.stops.each i (omega (arith, long)));
+        room = omega (arith, room, s.puts.next, sent_length s, long);
+      }
 
-  pub can_trips : {q : ℕ} {o : List ℕ} → Puts (first ++ stops) at out q o → TripsFit a d n m (first_event T r) q o
+  pub can_trips : {q : Pen} → Sent (first ++ stops) p q → TripsFit T n m (first_event T r) q
   can_trips s =
       record {
         arrivals = pre.fits.arrivals;
         departures = pre.fits.departures;
-        room = omega (arith, room, s.next, puts_length s, length-part_of p (first_position T r) n pre.fits.stops.there);
+        room = omega (arith, room, s.puts.next, sent_length s, long);
       }
 
-  pub route_end : {q q' q'' : ℕ} {o o' o'' : List ℕ} → Puts first at out q o → Puts stops q o q' o' → Puts trips q' o' q'' o'' → Puts (route_bytes T r) at out q'' o''
-  unfolding route_bytes trip_bytes
-  route_end x y z = puts_then x (puts_then y z)
+pub route_end : (T : Tables) (r : ℕ) {p q q' q'' : Pen} → Sent (0x52 ∷ 0x54 ∷ n_of T r ∷ two_bytes (m_of T r)) p q
+    → Sent (part (first_position T r) (first_position T r + n_of T r) T.t2) q q' → Sent (pieces (m_of T r) (trip_at_row T (n_of T r) (first_event T r))) q' q''
+    → Sent (route_bytes T r) p q''
+unfolding route_bytes
+route_end T r x y z = sent_then x (sent_then y z)
 
 -- ---- a walk
 
-module _ {g out : List ℕ} {w at : ℕ} (pre : WalkRoom (of_walks g) w at out) where
-  walk_room : at + 6 ≤ length out
+module _ {T : Tables} {w : ℕ} {p : Pen} (pre : WalkRoom T w p) where
+  pub walk_room : HasRoom 6 p
   unfolding walk_bytes
   walk_room = pre.room
 
-  pub walk_mark : at + 2 ≤ length out
-  walk_mark = omega (arith, walk_room)
+  pub can_from : {q : Pen} → Sent (0x57 ∷ 0x4B ∷ []) p q → HasRoom 1 q
+  can_from s = omega (arith, walk_room, s.puts.next, sent_length s)
 
-  pub can_from : {q : ℕ} {o : List ℕ} → Puts (0x57 ∷ 0x4B ∷ []) at out q o → CanPutField (walk_from (of_walks g) w) 256 q 1 o
-  can_from s = record { small = pre.fits.from<; room = omega (arith, walk_room, s.next, puts_length s) }
+  pub can_to : {x : ℕ} {q : Pen} → Sent (0x57 ∷ 0x4B ∷ x ∷ []) p q → HasRoom 1 q
+  can_to s = omega (arith, walk_room, s.puts.next, sent_length s)
 
-  pub can_to : {x q : ℕ} {o : List ℕ} → Puts (0x57 ∷ 0x4B ∷ x ∷ []) at out q o → CanPutField (walk_to (of_walks g) w) 256 q 1 o
-  can_to s = record { small = pre.fits.to<; room = omega (arith, walk_room, s.next, puts_length s) }
-
-  pub can_seconds : {x y q : ℕ} {o : List ℕ} → Puts (0x57 ∷ 0x4B ∷ x ∷ y ∷ []) at out q o → CanPutField (walk_seconds (of_walks g) w) 65536 q 2 o
-  can_seconds s = record { small = pre.fits.seconds<; room = omega (arith, walk_room, s.next, puts_length s) }
+  pub can_seconds : {x y : ℕ} {q : Pen} → Sent (0x57 ∷ 0x4B ∷ x ∷ y ∷ []) p q → CanPutField (walk_seconds T w) 65536 2 q
+  can_seconds s = record { small = pre.fits.seconds<; room = omega (arith, walk_room, s.puts.next, sent_length s) }
 
 -- ---- the size
 

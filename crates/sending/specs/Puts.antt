@@ -7,6 +7,8 @@ use Rattle.paper.specs.Timetable.{Tables, n_of, m_of, first_position, first_even
 use Rattle.paper.specs.Rules.{Fit}
 use Rattle.paper.specs.Feed.{trip_bytes, route_bytes, routes_bytes, walk_bytes, walks_bytes, size_of, fletcher_of}
 use Rattle.paper.specs.declared.Heads.{Heads}
+use Rattle.lettering.specs.Put.{HasRoom}
+use Rattle.lettering.specs.declared.Pen.{Pen}
 
 -- the bytes xs were put at `at` into d₀, which has become d; r is the offset behind them
 pub record Puts (xs : List ℕ) (at : ℕ) (d₀ : List ℕ) (r : ℕ) (d : List ℕ) : Type 0 where
@@ -14,45 +16,39 @@ pub record Puts (xs : List ℕ) (at : ℕ) (d₀ : List ℕ) (r : ℕ) (d : List
   pub fits : at + length xs ≤ length d₀
   pub is : d ≡ over (take at d₀ ++ xs) d₀
 
--- a number below the bound, and room for n bytes
-pub record CanPutField (x bound at n : ℕ) (d : List ℕ) : Type 0 where
+-- the pen has put the bytes xs, in the same buffer
+pub record Sent (xs : List ℕ) (p q : Pen) : Type 0 where
+  pub puts : Puts xs p.at p.out.now q.at q.out.now
+  pub same : q.out.ghost_name ≡ p.out.ghost_name
+
+-- a number below the bound, and room for its n bytes
+pub record CanPutField (x bound n : ℕ) (p : Pen) : Type 0 where
   pub small : x < bound
-  pub room : at + n ≤ length d
-
--- ---- tables of which a record's bytes are made
-
-abbrev pub of_times : List ℕ → List ℕ → Tables
-of_times a d = record { stops = 0; routes = 0; walks = 0; t1 = []; t2 = []; t3 = a; t4 = d; t5 = [] }
-
-abbrev pub of_routes : List ℕ → List ℕ → List ℕ → List ℕ → Tables
-of_routes h p a d = record { stops = 0; routes = 0; walks = 0; t1 = h; t2 = p; t3 = a; t4 = d; t5 = [] }
-
-abbrev pub of_walks : List ℕ → Tables
-of_walks g = record { stops = 0; routes = 0; walks = 0; t1 = []; t2 = []; t3 = []; t4 = []; t5 = g }
+  pub room : HasRoom n p
 
 -- k elements of table d from v on are there, and below the bound
 pub record Small (d : List ℕ) (v k bound : ℕ) : Type 0 where
   pub there : v + k ≤ length d
   pub each : (i : ℕ) → i < k → get_or d (v + i) 0 < bound
 
-pub record EventFits (x y at : ℕ) (out : List ℕ) : Type 0 where
+pub record EventFits (x y : ℕ) (p : Pen) : Type 0 where
   pub arrival< : x < 16777216
   pub departure< : y < 16777216
-  pub room : at + 6 ≤ length out
+  pub room : HasRoom 6 p
 
-pub record StopsFit (p : List ℕ) (from n at : ℕ) (out : List ℕ) : Type 0 where
-  pub stops : Small p from n 256
-  pub room : at + n ≤ length out
+pub record StopsFit (stops : List ℕ) (p : Pen) : Type 0 where
+  pub each : (i : ℕ) → i < length stops → get_or stops i 0 < 256
+  pub room : HasRoom (length stops) p
 
-pub record TripFits (a d : List ℕ) (n v at : ℕ) (out : List ℕ) : Type 0 where
-  pub arrivals : Small a v n 16777216
-  pub departures : Small d v n 16777216
-  pub room : at + length (trip_bytes (of_times a d) n v) ≤ length out
+pub record TripFits (T : Tables) (n v : ℕ) (p : Pen) : Type 0 where
+  pub arrivals : Small T.t3 v n 16777216
+  pub departures : Small T.t4 v n 16777216
+  pub room : HasRoom (length (trip_bytes T n v)) p
 
-pub record TripsFit (a d : List ℕ) (n m v at : ℕ) (out : List ℕ) : Type 0 where
-  pub arrivals : Small a v (n * m) 16777216
-  pub departures : Small d v (n * m) 16777216
-  pub room : at + length (pieces m (λ j. trip_bytes (of_times a d) n (v + j * n))) ≤ length out
+pub record TripsFit (T : Tables) (n m v : ℕ) (p : Pen) : Type 0 where
+  pub arrivals : Small T.t3 v (n * m) 16777216
+  pub departures : Small T.t4 v (n * m) 16777216
+  pub room : HasRoom (length (pieces m (λ j. trip_bytes T n (v + j * n)))) p
 
 -- route r's numbers can be written
 pub record RouteFits (T : Tables) (r : ℕ) : Type 0 where
@@ -63,13 +59,13 @@ pub record RouteFits (T : Tables) (r : ℕ) : Type 0 where
   pub arrivals : Small T.t3 (first_event T r) (n_of T r * m_of T r) 16777216
   pub departures : Small T.t4 (first_event T r) (n_of T r * m_of T r) 16777216
 
-pub record RouteRoom (T : Tables) (r at : ℕ) (out : List ℕ) : Type 0 where
+pub record RouteRoom (T : Tables) (r : ℕ) (p : Pen) : Type 0 where
   pub fits : RouteFits T r
-  pub room : at + length (route_bytes T r) ≤ length out
+  pub room : HasRoom (length (route_bytes T r)) p
 
-pub record RoutesRoom (T : Tables) (k at : ℕ) (out : List ℕ) : Type 0 where
+pub record RoutesRoom (T : Tables) (k : ℕ) (p : Pen) : Type 0 where
   pub fits : (r : ℕ) → r < k → RouteFits T r
-  pub room : at + length (routes_bytes T k) ≤ length out
+  pub room : HasRoom (length (routes_bytes T k)) p
 
 -- walk w's numbers can be written
 pub record WalkFits (T : Tables) (w : ℕ) : Type 0 where
@@ -78,26 +74,26 @@ pub record WalkFits (T : Tables) (w : ℕ) : Type 0 where
   pub to< : walk_to T w < 256
   pub seconds< : walk_seconds T w < 65536
 
-pub record WalkRoom (T : Tables) (w at : ℕ) (out : List ℕ) : Type 0 where
+pub record WalkRoom (T : Tables) (w : ℕ) (p : Pen) : Type 0 where
   pub fits : WalkFits T w
-  pub room : at + length (walk_bytes T w) ≤ length out
+  pub room : HasRoom (length (walk_bytes T w)) p
 
-pub record WalksRoom (T : Tables) (k at : ℕ) (out : List ℕ) : Type 0 where
+pub record WalksRoom (T : Tables) (k : ℕ) (p : Pen) : Type 0 where
   pub fits : (w : ℕ) → w < k → WalkFits T w
-  pub room : at + length (walks_bytes T k) ≤ length out
+  pub room : HasRoom (length (walks_bytes T k)) p
 
 -- ---- the head and the end
 
 abbrev pub head_of : Heads → ℕ → List ℕ
 head_of h size = 0x54 ∷ 0x48 ∷ 1 ∷ (h.stops - 1) ∷ h.routes ∷ (two_bytes h.walks ++ two_bytes size)
 
-pub record HeadFits (h : Heads) (size : ℕ) (out : List ℕ) : Type 0 where
+pub record HeadFits (h : Heads) (size : ℕ) (p : Pen) : Type 0 where
   pub stops≥ : 1 ≤ h.stops
   pub stops≤ : h.stops ≤ 256
   pub routes≤ : h.routes ≤ 64
   pub walks≤ : h.walks ≤ 512
   pub size< : size < 65536
-  pub room : 9 ≤ length out
+  pub room : HasRoom 9 p
 
 -- the end record behind the bytes xs
 abbrev pub end_of : List ℕ → List ℕ

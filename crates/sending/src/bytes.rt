@@ -1,63 +1,51 @@
-// Bytes put into the feed's buffer; each function answers the offset behind what it put.
-ghost use Rattle.std.specs.Prelude.{[], ◌∷◌, ◌++◌, ◌+◌, ◌≤◌, length, take};
+// Numbers of two and three bytes put into the feed's buffer, and the end record.
+ghost use Rattle.std.specs.Prelude.{◌++◌, ◌+◌, ◌≤◌, length, take};
 ghost use Rattle.laws.specs.Fields.{two_bytes, three_bytes};
-ghost use Rattle.sending.specs.Puts.{Puts, CanPutField, EventFits, end_of};
+ghost use Rattle.paper.specs.Feed.{fletcher_of};
+ghost use Rattle.checksum.specs.Small.{Is};
+ghost use Rattle.lettering.specs.Put.{HasRoom};
+ghost use Rattle.sending.specs.Puts.{Sent, CanPutField, EventFits, end_of};
 
 use checksum::fletcher;
+use lettering::Pen;
+use paper::Sum;
 
-pub fn put_mark(out: &mut [u8], at: usize, first: u8, second: u8) -> usize
-    requires { at + 2 ≤ length out.old }
-    ensures { Puts (first ∷ second ∷ []) at out.old result out.new }
+pub fn put_two(pen: &mut Pen, x: u32)
+    requires { CanPutField x 65536 2 pen.old }
+    ensures { Sent (two_bytes x) pen.old pen.new }
 {
-    out[at] = first;
-    out[at + 1] = second;
-    at + 2
+    pen.put_word(&[(x / 256) as u8, (x % 256) as u8]);
 }
 
-pub fn put_byte(out: &mut [u8], at: usize, x: u32) -> usize
-    requires { CanPutField x 256 at 1 out.old }
-    ensures { Puts (x ∷ []) at out.old result out.new }
+pub fn put_three(pen: &mut Pen, x: u32)
+    requires { CanPutField x 16777216 3 pen.old }
+    ensures { Sent (three_bytes x) pen.old pen.new }
 {
-    out[at] = x as u8;
-    at + 1
+    pen.put_word(&[(x / 65536) as u8, (x / 256 % 256) as u8, (x % 256) as u8]);
 }
 
-pub fn put_two(out: &mut [u8], at: usize, x: u32) -> usize
-    requires { CanPutField x 65536 at 2 out.old }
-    ensures { Puts (two_bytes x) at out.old result out.new }
+pub fn put_event(pen: &mut Pen, arrival: u32, departure: u32)
+    requires { EventFits arrival departure pen.old }
+    ensures { Sent (three_bytes arrival ++ three_bytes departure) pen.old pen.new }
 {
-    out[at] = (x / 256) as u8;
-    out[at + 1] = (x % 256) as u8;
-    at + 2
+    put_three(pen, arrival);
+    put_three(pen, departure);
 }
 
-pub fn put_three(out: &mut [u8], at: usize, x: u32) -> usize
-    requires { CanPutField x 16777216 at 3 out.old }
-    ensures { Puts (three_bytes x) at out.old result out.new }
+// The sum of what stands before the pen.
+fn sum_before(pen: &Pen) -> Sum
+    requires { HasRoom 0 pen.now }
+    ensures { Is (fletcher_of (take pen.now.at pen.now.out.now)) result }
 {
-    out[at] = (x / 65536) as u8;
-    out[at + 1] = (x / 256 % 256) as u8;
-    out[at + 2] = (x % 256) as u8;
-    at + 3
-}
-
-pub fn put_event(out: &mut [u8], at: usize, arrival: u32, departure: u32) -> usize
-    requires { EventFits arrival departure at out.old }
-    ensures { Puts (three_bytes arrival ++ three_bytes departure) at out.old result out.new }
-{
-    let next = put_three(out, at, arrival);
-    put_three(out, next, departure)
+    fletcher(&pen.out[..pen.at])
 }
 
 // The end record: its mark, and the sum of all before it, the mark included.
-pub fn put_end(out: &mut [u8], at: usize) -> usize
-    requires { at + 4 ≤ length out.old }
-    ensures { Puts (end_of (take at out.old)) at out.old result out.new }
+pub fn put_end(pen: &mut Pen)
+    requires { HasRoom 4 pen.old }
+    ensures { Sent (end_of (take pen.old.at pen.old.out.now)) pen.old pen.new }
 {
-    let next = put_mark(out, at, 69, 68);
-    let s = fletcher(&out[..next]);
-    let first = s.first;
-    let second = s.second;
-    let last = put_byte(out, next, first);
-    put_byte(out, last, second)
+    pen.put_word(b"ED");
+    let sum = sum_before(pen);
+    pen.put_word(&[sum.first as u8, sum.second as u8]);
 }

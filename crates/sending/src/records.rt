@@ -1,150 +1,96 @@
-// The records of a timetable put into the feed's buffer; each function answers the offset behind what it put.
+// The records of a timetable put into the feed's buffer.
 ghost use Rattle.std.specs.Prelude.{◌+◌, ◌*◌};
-ghost use Rattle.laws.specs.Lists.{pieces, part};
+ghost use Rattle.laws.specs.Lists.{pieces};
+ghost use Rattle.paper.specs.Timetable.{lent};
 ghost use Rattle.paper.specs.Feed.{trip_bytes, route_bytes, routes_bytes, walk_bytes, walks_bytes};
-ghost use Rattle.sending.specs.Puts.{Puts, StopsFit, TripFits, TripsFit, of_times, of_routes, of_walks, RouteRoom, RoutesRoom, WalkRoom, WalksRoom, head_of, HeadFits};
+ghost use Rattle.sending.specs.Puts.{Sent, StopsFit, TripFits, TripsFit, RouteRoom, RoutesRoom, WalkRoom, WalksRoom, head_of, HeadFits};
 
-use crate::bytes::{put_byte, put_event, put_mark, put_two};
-use paper::Heads;
+use crate::bytes::{put_event, put_two};
+use lettering::Pen;
+use paper::{Heads, Lent};
 
-// The n stops from position p on.
-fn put_stops(positions: &[u32], p: usize, n: usize, out: &mut [u8], at: usize) -> usize
-    requires { StopsFit positions.now p n at out.old }
-    ensures { Puts (part p (p + n) positions.now) at out.old result out.new }
+fn put_stops(pen: &mut Pen, stops: &[u32])
+    requires { StopsFit stops.now pen.old }
+    ensures { Sent stops.now pen.old pen.new }
 {
-    let mut q = at;
-    let mut i: usize = 0;
-    while i < n {
-        q = put_byte(out, q, positions[p + i]);
-        i += 1;
+    for stop in stops {
+        pen.put_byte(*stop as u8);
     }
-    q
 }
 
 // The trip of n events from event v on.
-fn put_trip(
-    arrivals: &[u32],
-    departures: &[u32],
-    n: usize,
-    v: usize,
-    out: &mut [u8],
-    at: usize,
-) -> usize
-    requires { TripFits arrivals.now departures.now n v at out.old }
-    ensures { Puts (trip_bytes (of_times arrivals.now departures.now) n v) at out.old result out.new }
+fn put_trip(pen: &mut Pen, tables: Lent, n: usize, v: usize)
+    requires { TripFits (lent tables) n v pen.old }
+    ensures { Sent (trip_bytes (lent tables.entry) n v) pen.old pen.new }
 {
-    let mut q = put_mark(out, at, 84, 80);
-    let mut i: usize = 0;
-    while i < n {
-        q = put_event(out, q, arrivals[v + i], departures[v + i]);
-        i += 1;
+    pen.put_word(b"TP");
+    for i in 0..n {
+        put_event(pen, tables.arrivals[v + i], tables.departures[v + i]);
     }
-    q
 }
 
 // The m trips of a route whose first event is v.
-fn put_trips(
-    arrivals: &[u32],
-    departures: &[u32],
-    n: usize,
-    m: usize,
-    v: usize,
-    out: &mut [u8],
-    at: usize,
-) -> usize
-    requires { TripsFit arrivals.now departures.now n m v at out.old }
-    ensures { Puts (pieces m (λ j. trip_bytes (of_times arrivals.now departures.now) n (v + j * n))) at out.old result out.new }
+fn put_trips(pen: &mut Pen, tables: Lent, n: usize, m: usize, v: usize)
+    requires { TripsFit (lent tables) n m v pen.old }
+    ensures { Sent (pieces m (λ j. trip_bytes (lent tables.entry) n (v + j * n))) pen.old pen.new }
 {
-    let mut q = at;
-    let mut j: usize = 0;
-    while j < m {
-        q = put_trip(arrivals, departures, n, v + j * n, out, q);
-        j += 1;
+    for j in 0..m {
+        put_trip(pen, tables, n, v + j * n);
     }
-    q
 }
 
 // Route r, followed at once by its trips.
-fn put_route(
-    routes: &[u32],
-    positions: &[u32],
-    arrivals: &[u32],
-    departures: &[u32],
-    r: usize,
-    out: &mut [u8],
-    at: usize,
-) -> usize
-    requires { RouteRoom (of_routes routes.now positions.now arrivals.now departures.now) r at out.old }
-    ensures { Puts (route_bytes (of_routes routes.now positions.now arrivals.now departures.now) r) at out.old result out.new }
+fn put_route(pen: &mut Pen, tables: Lent, r: usize)
+    requires { RouteRoom (lent tables) r pen.old }
+    ensures { Sent (route_bytes (lent tables.entry) r) pen.old pen.new }
 {
-    let n = routes[r * 4];
-    let m = routes[r * 4 + 1];
-    let p = routes[r * 4 + 2] as usize;
-    let v = routes[r * 4 + 3] as usize;
-    let a = put_mark(out, at, 82, 84);
-    let b = put_byte(out, a, n);
-    let c = put_two(out, b, m);
-    let d = put_stops(positions, p, n as usize, out, c);
-    put_trips(arrivals, departures, n as usize, m as usize, v, out, d)
+    let n = tables.routes[r * 4] as usize;
+    let m = tables.routes[r * 4 + 1];
+    let p = tables.routes[r * 4 + 2] as usize;
+    let v = tables.routes[r * 4 + 3] as usize;
+    pen.put_word(b"RT");
+    pen.put_byte(n as u8);
+    put_two(pen, m);
+    put_stops(pen, &tables.positions[p..p + n]);
+    put_trips(pen, tables, n, m as usize, v);
 }
 
-// The first k routes.
-pub fn put_routes(
-    routes: &[u32],
-    positions: &[u32],
-    arrivals: &[u32],
-    departures: &[u32],
-    k: usize,
-    out: &mut [u8],
-    at: usize,
-) -> usize
-    requires { RoutesRoom (of_routes routes.now positions.now arrivals.now departures.now) k at out.old }
-    ensures { Puts (routes_bytes (of_routes routes.now positions.now arrivals.now departures.now) k) at out.old result out.new }
+pub fn put_routes(pen: &mut Pen, tables: Lent)
+    requires { RoutesRoom (lent tables) tables.heads.routes pen.old }
+    ensures { Sent (routes_bytes (lent tables.entry) tables.entry.heads.routes) pen.old pen.new }
 {
-    let mut q = at;
-    let mut r: usize = 0;
-    while r < k {
-        q = put_route(routes, positions, arrivals, departures, r, out, q);
-        r += 1;
+    for r in 0..tables.heads.routes as usize {
+        put_route(pen, tables, r);
     }
-    q
 }
 
-fn put_walk(walks: &[u32], w: usize, out: &mut [u8], at: usize) -> usize
-    requires { WalkRoom (of_walks walks.now) w at out.old }
-    ensures { Puts (walk_bytes (of_walks walks.now) w) at out.old result out.new }
+fn put_walk(pen: &mut Pen, tables: Lent, w: usize)
+    requires { WalkRoom (lent tables) w pen.old }
+    ensures { Sent (walk_bytes (lent tables.entry) w) pen.old pen.new }
 {
-    let a = put_mark(out, at, 87, 75);
-    let b = put_byte(out, a, walks[w * 3]);
-    let c = put_byte(out, b, walks[w * 3 + 1]);
-    put_two(out, c, walks[w * 3 + 2])
+    pen.put_word(b"WK");
+    pen.put_byte(tables.walks[w * 3] as u8);
+    pen.put_byte(tables.walks[w * 3 + 1] as u8);
+    put_two(pen, tables.walks[w * 3 + 2]);
 }
 
-// The first k walks.
-pub fn put_walks(walks: &[u32], k: usize, out: &mut [u8], at: usize) -> usize
-    requires { WalksRoom (of_walks walks.now) k at out.old }
-    ensures { Puts (walks_bytes (of_walks walks.now) k) at out.old result out.new }
+pub fn put_walks(pen: &mut Pen, tables: Lent)
+    requires { WalksRoom (lent tables) tables.heads.walks pen.old }
+    ensures { Sent (walks_bytes (lent tables.entry) tables.entry.heads.walks) pen.old pen.new }
 {
-    let mut q = at;
-    let mut w: usize = 0;
-    while w < k {
-        q = put_walk(walks, w, out, q);
-        w += 1;
+    for w in 0..tables.heads.walks as usize {
+        put_walk(pen, tables, w);
     }
-    q
 }
 
-pub fn put_head(heads: Heads, size: u32, out: &mut [u8]) -> usize
-    requires { HeadFits heads size out.old }
-    ensures { Puts (head_of heads size) 0 out.old result out.new }
+pub fn put_head(pen: &mut Pen, heads: Heads, size: u32)
+    requires { HeadFits heads size pen.old }
+    ensures { Sent (head_of heads size) pen.old pen.new }
 {
-    let stops = heads.stops;
-    let routes = heads.routes;
-    let walks = heads.walks;
-    let a = put_mark(out, 0, 84, 72);
-    let b = put_byte(out, a, 1);
-    let c = put_byte(out, b, stops - 1);
-    let d = put_byte(out, c, routes);
-    let e = put_two(out, d, walks);
-    put_two(out, e, size)
+    pen.put_word(b"TH");
+    pen.put_byte(1);
+    pen.put_byte((heads.stops - 1) as u8);
+    pen.put_byte(heads.routes as u8);
+    put_two(pen, heads.walks);
+    put_two(pen, size);
 }

@@ -1,12 +1,11 @@
 -- A record's mark, as the field reader looks for it.
-use mathlib.Core.Path.{◌≡◌, ◌∙◌}
-use mathlib.Core.Bool.{Bool, not, false}
+use mathlib.Core.Path.{◌≡◌, sym, ◌∙◌}
+use mathlib.Core.Bool.{Bool, true}
 use mathlib.Core.List.{List}
 use Prim.Native.Nat.{ℕ, ◌+◌, ◌*◌, ◌/◌, ◌%◌, ◌≤◌, ◌<◌}
 use native.Mathlib.Omega.{arith}
 use lib.ListN.{length}
 use borrow.Author.Tests.{le-leb}
-use Rattle.laws.proofs.Tests.{stood}
 use Rattle.paper.specs.Reading.{marked}
 use Rattle.paper.proofs.FeedRecords.{marked_says}
 
@@ -20,5 +19,5 @@ begins_stands f e at k p q w m l a b h =
     h ∙ simp (le-leb (at + k) e l, le-leb (at + 2) (length f) (omega arith), x, y)
 
 -- a record whose mark stands ends by e
-pub stands_by : {r : Bool} (f : List ℕ) (e at k p q : ℕ) → r ≡ marked f e at k p q → not r ≡ false → at + k ≤ e
-stands_by f e at k p q h t = (marked_says f e at k p q (stood h t)).fits
+pub stands_by : {r : Bool} (f : List ℕ) (e at k p q : ℕ) → r ≡ marked f e at k p q → r ≡ true → at + k ≤ e
+stands_by f e at k p q h t = (marked_says f e at k p q (sym h ∙ t)).fits

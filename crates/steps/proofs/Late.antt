@@ -1,8 +1,8 @@
 -- No ride that a row permits is before the earliest: where that and the seconds are after v, no step from there arrives at v.
+use Rattle.std.specs.Prelude.{Option, None}
 use mathlib.Core.Path.{◌≡◌, ◌∙◌}
 use mathlib.Core.Bool.{false, ◌&&◌}
 use mathlib.Core.List.{List}
-use mathlib.Core.Option.{none}
 use Prim.Native.Nat.{ℕ, ◌+◌, ◌<◌}
 use native.Mathlib.Omega.{arith}
 use borrow.Author.Tests.{eqb-true}
@@ -14,10 +14,9 @@ use Rattle.laws.proofs.Found.{given_true, given_false, first_found_none}
 use Rattle.paper.specs.Timetable.{Tables, route_of, stop_at, arrive_at}
 use Rattle.paper.specs.Rows.{boards, ride_on, ride_to}
 use Rattle.paper.specs.Tie.{boarded_first, left_first, trip_first, route_first}
-use Rattle.paper.specs.declared.After.{After}
 use Rattle.paper.proofs.Rides.{ride_on_le}
 
-module _ (T : Tables) (row : List ℕ) (s seconds v : ℕ) (after : After) (late : v < ride_to T row s + seconds) where
+module _ (T : Tables) (row : List ℕ) (s seconds v : ℕ) (after : Option ℕ) (late : v < ride_to T row s + seconds) where
   module _ (r j l : ℕ) (lr : r < T.routes) (lj : j < (route_of T r).m) (ll : l < (route_of T r).n) where
     not_boarded : stop_at (route_of T r) l ≡ s → arrive_at (route_of T r) j l + seconds ≡ v → (i : ℕ) → i < l → boards (route_of T r) row j i ≡ false
     unfolding ride_to
@@ -28,7 +27,7 @@ module _ (T : Tables) (row : List ℕ) (s seconds v : ℕ) (after : After) (late
         absurd (omega arith))
         (λ f. f)
 
-    not_left : given (eqb (stop_at (route_of T r) l) s && eqb (arrive_at (route_of T r) j l + seconds) v) (boarded_first T row s seconds v after r j l) ≡ none
+    not_left : given (eqb (stop_at (route_of T r) l) s && eqb (arrive_at (route_of T r) j l + seconds) v) (boarded_first T row s seconds v after r j l) ≡ None
     unfolding boarded_first
     not_left =
         by_test (eqb (stop_at (route_of T r) l) s && eqb (arrive_at (route_of T r) j l + seconds) v)
@@ -37,7 +36,7 @@ module _ (T : Tables) (row : List ℕ) (s seconds v : ℕ) (after : After) (late
         ∙ first_found_none l _ (λ i li. given_false _ (not_boarded (eqb-true _ _ x.0) (eqb-true _ _ x.1) i li)))
         (λ f. given_false _ f)
 
-  pub too_late : route_first T row s seconds v after ≡ none
+  pub too_late : route_first T row s seconds v after ≡ None
   unfolding route_first trip_first left_first
   too_late =
       first_found_none T.routes (trip_first T row s seconds v after)

@@ -1,4 +1,5 @@
 -- What the small tests of the search say, in the words of their code.
+use Rattle.std.specs.Prelude.{Option, Some, None}
 use mathlib.Core.Path.{◌≡◌, refl, sym, ap, ◌∙◌}
 use mathlib.Core.Bool.{Bool, false, cond}
 use mathlib.Core.List.{List}
@@ -10,11 +11,9 @@ use lib.Dec.{eqb, leb, ltb}
 use lib.ListN.{get_or}
 use Rattle.laws.specs.Below.{mark}
 use Rattle.paper.specs.Rows.{label}
-use Rattle.paper.specs.declared.After.TheVariants.{Stays, WalksTo}
 use Rattle.paper.proofs.Steps.{label_read}
 use Rattle.extents.specs.declared.Extent.{Extent}
 use Rattle.steps.specs.declared.Way.{Way}
-use Rattle.steps.specs.declared.Way.TheVariants.{Open, Shut}
 use Rattle.steps.specs.Search.{stop_in, time_in, ends_in, Boarding, boards_in, way_of, on_foot}
 
 module _ (t2 t4 row : List ℕ) (x : Extent) (j i : ℕ) (in4 : Boarding t2 t4 row x j i) where
@@ -36,7 +35,7 @@ module _ (t2 t3 : List ℕ) (x : Extent) (j l s seconds v : ℕ) where
   ends_elsewhere h = rw (ne_eqb (stop_in t2 x l) s h)
 
 module _ (seconds next : List ℕ) (p v : ℕ) where
-  pub way_stays : (way : ℕ) → way ≡ 0 → Open p 0 Stays ≡ way_of seconds next p v way
+  pub way_stays : (way : ℕ) → way ≡ 0 → Some (record { stop = p; seconds = 0; after = None }) ≡ way_of seconds next p v way
   unfolding way_of
   way_stays way e = rw e
 
@@ -52,25 +51,31 @@ module _ (seconds next : List ℕ) (p v : ℕ) where
         go zero z = absurd (z refl)
         go (suc s) z = simp sub-one
 
-    abbrev in_time : Way
-    in_time = cond (ltb v (get_or next (way - 1) 0 + takes)) Shut (Open (way - 1) takes (WalksTo p))
+    abbrev on_it : Option Way
+    on_it = Some (record { stop = way - 1; seconds = takes; after = Some p })
 
-    pub way_shut : takes ≡ 0 → Shut ≡ way_of seconds next p v way
-    way_shut e = sym (way_walks ∙ ap (λ (b : Bool). cond b Shut in_time) (eq-eqb _ _ e))
+    abbrev in_time : Option Way
+    in_time = cond (ltb v (get_or next (way - 1) 0 + takes)) None on_it
+
+    pub way_shut : takes ≡ 0 → None ≡ way_of seconds next p v way
+    way_shut e = sym (way_walks ∙ ap (λ (b : Bool). cond b None in_time) (eq-eqb _ _ e))
 
     module _ (some_walk : takes ≡ 0 → ⊥) where
       walk_there : way_of seconds next p v way ≡ in_time
-      walk_there = way_walks ∙ ap (λ (b : Bool). cond b Shut in_time) (ne_eqb _ _ some_walk)
+      walk_there = way_walks ∙ ap (λ (b : Bool). cond b None in_time) (ne_eqb _ _ some_walk)
 
-      late : v < get_or next (way - 1) 0 + takes → Shut ≡ way_of seconds next p v way
-      late l = sym (walk_there ∙ ap (λ (b : Bool). cond b Shut (Open (way - 1) takes (WalksTo p))) (lt-ltb _ _ l))
+      late : v < get_or next (way - 1) 0 + takes → None ≡ way_of seconds next p v way
+      late l = sym (walk_there ∙ ap (λ (b : Bool). cond b None on_it) (lt-ltb _ _ l))
 
       -- it takes longer than v, or has to begin before the next row's label
-      pub way_long : v < takes → Shut ≡ way_of seconds next p v way
+      pub way_long : v < takes → None ≡ way_of seconds next p v way
       way_long l = late (omega arith)
 
-      pub way_late : takes ≤ v → v - takes < get_or next (way - 1) 0 → Shut ≡ way_of seconds next p v way
+      pub way_late : takes ≤ v → v - takes < get_or next (way - 1) 0 → None ≡ way_of seconds next p v way
       way_late h l = late (omega arith)
 
-      pub way_open : takes ≤ v → get_or next (way - 1) 0 ≤ v - takes → Open (way - 1) takes (WalksTo p) ≡ way_of seconds next p v way
-      way_open h l = sym (walk_there ∙ ap (λ (b : Bool). cond b Shut (Open (way - 1) takes (WalksTo p))) (le-ltb v (get_or next (way - 1) 0 + takes) (omega arith)))
+      pub way_open : takes ≤ v → get_or next (way - 1) 0 ≤ v - takes → on_it ≡ way_of seconds next p v way
+      way_open h l = sym (walk_there ∙ ap (λ (b : Bool). cond b None on_it) (le-ltb v (get_or next (way - 1) 0 + takes) (omega arith)))
+
+-- the five ways in which the code answers
+pub ruleset ways = (way_stays, way_shut, way_long, way_late, way_open)

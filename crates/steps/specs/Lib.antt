@@ -1,2 +1,3 @@
 -- What the contracts of the search cite.
 pub mod Search
+pub mod Rides

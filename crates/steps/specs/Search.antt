@@ -1,22 +1,12 @@
 -- The search for the first last step: what its parts ask and answer.
-use Rattle.std.specs.Prelude.{◌≡◌, Bool, not, cond, ◌&&◌, List, ℕ, zero, suc, ◌+◌, ◌*◌, ◌≤◌, ◌<◌, eqb, leb, ltb, length, get_or}
-use Rattle.std.proofs.Math.Option.{Option, none, some}
-use Rattle.laws.specs.Below.{mark, first_below, past_below}
+use Rattle.std.specs.Prelude.{◌≡◌, ◌≢◌, Bool, false, not, cond, ◌&&◌, List, ℕ, zero, suc, ◌+◌, ◌*◌, ◌≤◌, ◌<◌, eqb, leb, ltb, length, get_or, Option, Some, None}
+use Rattle.laws.specs.Below.{mark, first_below}
 use Rattle.laws.specs.Lists.{tab}
 use Rattle.paper.specs.Timetable.{Tables}
 use Rattle.paper.specs.Rules.{Fit}
 use Rattle.paper.specs.Rows.{label, ride_to}
-use Rattle.paper.specs.declared.Leg.{Leg}
-use Rattle.paper.specs.declared.After.TheVariants.{Stays, WalksTo}
-use Rattle.steps.specs.declared.Found.{Found}
-use Rattle.steps.specs.declared.Found.TheVariants.{Step, Nothing}
-use Rattle.steps.specs.declared.Way.{Way}
-use Rattle.steps.specs.declared.Way.TheVariants.{Open, Shut}
 use Rattle.extents.specs.declared.Extent.{Extent}
-
-abbrev pub found_of : Option Leg → Found
-found_of none = Nothing
-found_of (some g) = Step g
+use Rattle.steps.specs.declared.Way.{Way}
 
 -- ---- the ways in to a stop
 
@@ -39,12 +29,13 @@ pub record WalksIn (t5 : List ℕ) (count : ℕ) : Type 0 where
   pub once : (w z : ℕ) → w < count → z < count → get_or t5 (w * 3) 0 ≡ get_or t5 (z * 3) 0 → get_or t5 (w * 3 + 1) 0 ≡ get_or t5 (z * 3 + 1) 0 → w ≡ z
 
 -- from stop s, by a walk of so many seconds: 0 is no walk, and it is too late where the next row's label of s and the seconds are after v
-abbrev pub on_foot : List ℕ → ℕ → ℕ → ℕ → ℕ → Way
-on_foot next p v s seconds = cond (eqb seconds 0) Shut (cond (ltb v (get_or next s 0 + seconds)) Shut (Open s seconds (WalksTo p)))
+abbrev pub on_foot : List ℕ → ℕ → ℕ → ℕ → ℕ → Option Way
+on_foot next p v s seconds =
+    cond (eqb seconds 0) None (cond (ltb v (get_or next s 0 + seconds)) None (Some (record { stop = s; seconds = seconds; after = Some p })))
 
 -- the ways in to p at v, in the tie rule's order: 0 stays at p, s + 1 walks to p from s
-unfoldable pub way_of : List ℕ → List ℕ → ℕ → ℕ → ℕ → Way
-way_of seconds next p v zero = Open p 0 Stays
+unfoldable pub way_of : List ℕ → List ℕ → ℕ → ℕ → ℕ → Option Way
+way_of seconds next p v zero = Some (record { stop = p; seconds = 0; after = None })
 way_of seconds next p v (suc s) = on_foot next p v s (get_or seconds s 0)
 
 -- the stop walked from is one of 256 and has a label
@@ -61,17 +52,32 @@ stop_in t2 x i = get_or t2 (x.first + i) 0
 abbrev pub time_in : List ℕ → Extent → ℕ → ℕ → ℕ
 time_in t x j i = get_or t (x.event + (j * x.n + i)) 0
 
+-- of a route's stops none is s; the first that is, stands at index i; the last does
+abbrev pub NeverAt : List ℕ → ℕ → Type 0
+NeverAt stops s = (k : ℕ) → k < length stops → get_or stops k 0 ≢ s
+
+pub record FirstAt (stops : List ℕ) (s i : ℕ) : Type 0 where
+  pub inside : i < length stops
+  pub before : (k : ℕ) → k < i → get_or stops k 0 ≢ s
+
+pub record LastAt (stops : List ℕ) (s i : ℕ) : Type 0 where
+  pub inside : i < length stops
+  pub after : (k : ℕ) → i < k → k < length stops → get_or stops k 0 ≢ s
+
 -- is its position i at stop s?
 abbrev pub visit_at : List ℕ → Extent → ℕ → ℕ → Bool
 visit_at t2 x s i = eqb (stop_in t2 x i) s
 
--- its first position at stop s, n if there is none
-unfoldable pub first_visit : List ℕ → Extent → ℕ → ℕ
-first_visit t2 x s = first_below x.n (visit_at t2 x s)
+-- none of its positions is at stop s
+abbrev pub Unvisited : List ℕ → Extent → ℕ → Type 0
+Unvisited t2 x s = (i : ℕ) → i < x.n → visit_at t2 x s i ≡ false
 
--- the position after its last at stop s, 0 if there is none
-unfoldable pub past_visit : List ℕ → Extent → ℕ → ℕ
-past_visit t2 x s = past_below x.n (visit_at t2 x s)
+-- none before `first` is, and none from `past` on
+pub record Between (t2 : List ℕ) (x : Extent) (s first past : ℕ) : Type 0 where
+  pub first< : first < x.n
+  pub past≤ : past ≤ x.n
+  pub before : (i : ℕ) → i < first → visit_at t2 x s i ≡ false
+  pub after : (i : ℕ) → past ≤ i → i < x.n → visit_at t2 x s i ≡ false
 
 pub record Ending (t2 t3 : List ℕ) (x : Extent) (j l : ℕ) : Type 0 where
   pub position : x.first + l < length t2

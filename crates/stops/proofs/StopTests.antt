@@ -1,43 +1,64 @@
--- 7, as the code tests it: one position, and the fold over all.
-use mathlib.Core.Path.{◌≡◌, refl}
-use mathlib.Core.Bool.{Bool, true, false, not, ◌||◌}
+-- 7, as the code tests it: the fold over all positions, and the search for the first that is at no stop.
+use mathlib.Core.Path.{◌≡◌}
+use mathlib.Core.Bool.{Bool, true, false, ◌&&◌}
 use mathlib.Core.List.{List}
-use Prim.Native.Nat.{ℕ, ◌+◌, ◌≤◌, ◌<◌}
+use Prim.Native.Nat.{ℕ, ◌≤◌, ◌<◌}
 use native.Mathlib.Omega.{arith}
-use lib.Dec.{leb}
-use lib.ListN.{get_or}
-use borrow.Author.Count.{below_more}
-use borrow.Author.Tests.{le-ltb, leb-false, not-true}
-use Rattle.laws.proofs.Checking.{or_none}
+use lib.Dec.{leb, ltb}
+use lib.ListN.{length, get_or, take, length-take}
+use borrow.Author.Tests.{le-ltb, ltb-true, ltb-false, leb-true, leb-false}
+use Rattle.std.specs.Prelude.{fold, position, None}
+use Rattle.std.specs.List.{position_or_len}
+use Rattle.std.proofs.Common.{get_or-take}
+use Rattle.std.proofs.lemmas.List.Sums.{fails_before_first, passes_at_first}
+use Rattle.laws.proofs.Tests.{by_test}
+use Rattle.laws.proofs.Folds.{each_passes}
 use Rattle.paper.specs.Timetable.{Tables, stop_of}
 use Rattle.paper.specs.Rules.{lowest_of, stop_broken}
+use Rattle.paper.proofs.Lowest.{lowest_is, lowest_none}
 use Rattle.paper.proofs.Places.{stop_whole}
-use Rattle.places.specs.declared.Place.{Place}
-use Rattle.places.specs.Place.{place_of}
-use Rattle.places.proofs.Lowest.{no_lowest}
-use Rattle.stops.specs.Stops.{of_stops, StopsTold}
+use Rattle.stops.specs.Stops.{of_stops}
 
--- the number at position p is not a stop's
-pub stop_broken_lem : (T : Tables) (p : ℕ) → T.stops ≤ stop_of T p → stop_broken T p ≡ true
-unfolding stop_broken
-stop_broken_lem T p h = rw (le-ltb (stop_of T p) T.stops h)
+module _ (stops count : ℕ) (positions : List ℕ) (room : count ≤ length positions) where
+  abbrev T : Tables
+  T = of_stops stops positions
 
-module _ (stops : ℕ) (positions : List ℕ) where
-  -- each of the positions below p is at a stop
-  abbrev pub StopsRight : ℕ → Type 0
-  StopsRight p = (k : ℕ) → k < p → get_or positions k 0 < stops
+  -- the code's test of a number, and the numbers that it tests
+  abbrev at_none : ℕ → Bool
+  at_none stop = leb stops stop
 
-  pub stops_start : (wrong : Bool) → wrong ≡ false → StopsRight 0
-  stops_start wrong e k l = absurd (omega arith)
+  abbrev used : List ℕ
+  used = take count positions
 
-  pub stops_more : (p : ℕ) (wrong : Bool) → (wrong ≡ false → StopsRight p) → (wrong || leb stops (get_or positions p 0)) ≡ false → StopsRight (p + 1)
-  stops_more p wrong h e =
-      let b = or_none wrong (leb stops (get_or positions p 0)) e in
-      below_more (λ (k : ℕ). get_or positions k 0 < stops) p (h b.0) (leb-false stops (get_or positions p 0) b.1)
+  -- the test of the number at position p is 7's
+  broken : (p : ℕ) → p < count → at_none (get_or used p 0) ≡ true → stop_broken T p ≡ true
+  unfolding stop_broken
+  broken p l t =
+      let h : stops ≤ get_or positions p 0 = leb-true stops (get_or positions p 0) (rw get_or-take at t) in
+      rw (le-ltb (stop_of T p) stops h)
 
-  pub stops_told : (count p : ℕ) (wrong : Bool) → count ≤ p → (wrong ≡ false → StopsRight p) → StopsTold stops count positions wrong
-  stops_told count p wrong l h = record { right = λ f k b. h f k (omega arith) }
+  whole : (p : ℕ) → p < count → at_none (get_or used p 0) ≡ false → stop_broken T p ≡ false
+  whole p l f = stop_whole T p (leb-false stops (get_or positions p 0) (rw get_or-take at f))
 
-  pub stop_none : (count : ℕ) {wrong : Bool} → StopsTold stops count positions wrong → not wrong ≡ true →
-      Place.Nowhere ≡ place_of (lowest_of count (stop_broken (of_stops stops positions)))
-  stop_none count t e = no_lowest count _ count refl (λ p l. stop_whole (of_stops stops positions) p (t.right (not-true _ e) p l))
+  long : length used ≡ count
+  long = omega (arith, length-take count positions)
+
+  pub stop_none : fold (λ all stop. all && ltb stop stops) true used ≡ true → None ≡ lowest_of count (stop_broken T)
+  stop_none e =
+      rw (lowest_none count (stop_broken T)
+      (λ p l. let x = each_passes (λ stop. ltb stop stops) true used e p 0 (rw long l) in
+      stop_whole T p (ltb-true (get_or positions p 0) stops (rw get_or-take at x))))
+
+  pub stop_first : position at_none used ≡ lowest_of count (stop_broken T)
+  stop_first =
+      let first = position_or_len at_none used in
+      by_test (ltb first (length used))
+      (λ t. let l : first < length used = ltb-true first (length used) t in
+      let m : first < count = rw long at l in
+      rw (
+        t,
+        lowest_is count (stop_broken T) first m
+            (λ p b. whole p (omega arith) (fails_before_first at_none used p 0 b)) (broken first m (passes_at_first at_none used 0 l)),
+      ))
+      (λ f. let l : length used ≤ first = ltb-false first (length used) f in
+      rw (f, lowest_none count (stop_broken T) (λ p b. whole p b (fails_before_first at_none used p 0 (omega (arith, long))))))

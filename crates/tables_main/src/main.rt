@@ -1,242 +1,167 @@
-// The edges of 01's rules, each checked once and printed on a line: `done LIMIT`, or the refusal's number and place.
+// The edges of 01's rules, each checked once and printed on a line: `done LIMIT`, or the refusal's number and
+// place.
 #![tactic(auto)]
 
-ghost use Rattle.std.specs.Prelude.{length};
-ghost use Rattle.tables_main.specs.Lengths.{Lengths};
+ghost use Rattle.std.specs.Prelude.{◌<◌};
 
 mod tables;
 
-use crate::tables::{
-    fill_routes, fill_times, positions_of, put_route, put_walk, routes_of, times_of, walks_of,
-};
-use paper::{Checked, Heads};
+use crate::tables::{Change, Table, Tables};
+use paper::Lent;
+use std::io;
 
-// One number of the tables 1 to 5 is another. Table 0 is both tables of times.
-#[derive(Clone, Copy)]
-struct Change {
-    table: u32,
-    at: usize,
-    value: u32,
-}
-
-fn print_checked(checked: Checked) {
-    match checked {
-        Checked::Done(limit) => {
-            io::write_all(1, b"done ");
-            io::print_decimal(1, limit as u64);
-        }
-        Checked::Refused(number, place) => {
-            io::print_decimal(1, number as u64);
-            io::write_all(1, b" ");
-            io::print_decimal(1, place as u64);
-        }
+fn print_check(rt: &impl Print, tables: Lent) -> io::Result<()> {
+    match timetable::check(tables) {
+        Ok(limit) => println!(rt; "done {limit}"),
+        Err(refusal) => println!(rt; "{} {}", refusal.number, refusal.place),
     }
-    io::write_all(1, b"\n");
 }
 
-// One route that halts at stop 0 only, one walk from 0 to 1, and a change.
-fn one_route(heads: Heads, n: u32, m: u32, change: Change) {
-    let table = change.table;
-    let at = change.at;
-    let value = change.value;
-    let routes = routes_of(n, m, table == 1, at, value);
-    let positions = positions_of(table == 2, at, value);
-    let arrivals = times_of(n, (table == 3) | (table == 0), at, value);
-    let departures = times_of(n, (table == 4) | (table == 0), at, value);
-    let walks = walks_of(table == 5, at, value);
-    print_checked(timetable::check(heads, &routes, &positions, &arrivals, &departures, &walks));
-}
-
-// So many routes that halt at stop 0 only, with the same times of arrival and departure.
-fn check_routes(count: u32, routes: &[u32], times: &[u32]) {
-    let positions: [u32; 2048] = [0; 2048];
-    let walks: [u32; 1536] = [0; 1536];
-    print_checked(timetable::check(
-        heads_of(1, count, 0),
-        routes,
-        &positions,
-        times,
-        times,
-        &walks,
-    ));
+// One route of n positions and m trips that halts at stop 0 only, and one walk from 0 to 1.
+fn one_route(mut tables: Tables, n: u32, m: u32) -> Tables
+    requires { 0 < n }
+{
+    tables.set_route(0, [n, m, 0, 0]);
+    tables.set_times(0, n);
+    tables.set_walk(0, [0, 1, 10]);
+    tables
 }
 
 // A route of 64 positions and 31 trips, and one after it.
-fn two_routes(n: u32, m: u32) {
-    let mut routes: [u32; 256] = [0; 256];
-    let mut times: [u32; 2048] = [0; 2048];
-    put_route(&mut routes, 0, 64, 31, 0, 0);
-    put_route(&mut routes, 1, n, m, 64, 1984);
-    fill_times(&mut times, 0, 64);
-    fill_times(&mut times, 1984, n);
-    check_routes(2, &routes, &times);
-}
-
-// So many of these routes.
-fn many_routes(count: u32) {
-    let mut routes: [u32; 256] = [0; 256];
-    let mut times: [u32; 2048] = [0; 2048];
-    fill_routes(&mut routes);
-    fill_times(&mut times, 0, 2);
-    check_routes(count, &routes, &times);
-}
-
-// The first so many numbers of these tables, with no route and no walk.
-fn check_parts(
-    routes: &[u32],
-    times: &[u32],
-    walks: &[u32],
-    a: usize,
-    b: usize,
-    c: usize,
-    d: usize,
-    e: usize,
-)
-    requires { Lengths (length routes.now) (length times.now) (length walks.now) a b c d e }
+fn two_routes(rt: &impl Print, n: u32, m: u32) -> io::Result<()>
+    requires { 0 < n }
 {
-    print_checked(timetable::check(
-        heads_of(1, 0, 0),
-        &routes[0..a],
-        &times[0..b],
-        &times[0..c],
-        &times[0..d],
-        &walks[0..e],
-    ));
+    let mut tables = Tables::new(1, 2, 0);
+    tables.set_route(0, [64, 31, 0, 0]);
+    tables.set_route(1, [n, m, 64, 1984]);
+    tables.set_times(0, 64);
+    tables.set_times(1984, n);
+    print_check(rt, tables.lent())
 }
 
-// The first so many of tables of full size.
-fn parts(a: usize, b: usize, c: usize, d: usize, e: usize)
-    requires { Lengths 256 2048 1536 a b c d e }
-{
-    let routes: [u32; 256] = [0; 256];
-    let times: [u32; 2048] = [0; 2048];
-    let walks: [u32; 1536] = [0; 1536];
-    check_parts(&routes, &times, &walks, a, b, c, d, e);
-}
-
-// So many walks between three stops, with no route.
-fn check_walks(count: u32, walks: &[u32]) {
-    let routes: [u32; 256] = [0; 256];
-    let times: [u32; 2048] = [0; 2048];
-    print_checked(timetable::check(
-        heads_of(3, 0, count),
-        &routes,
-        &times,
-        &times,
-        &times,
-        walks,
-    ));
-}
-
-// Walk 0 to 1 of 10 s, walk 0 to 2, and 1 to 2 of 10 s as walk `last`, of so many.
-fn three_walks(seconds: u32, last: u32, count: u32) {
-    let mut walks: [u32; 1536] = [0; 1536];
-    put_walk(&mut walks, 0, 0, 1, 10);
-    put_walk(&mut walks, 1, 0, 2, seconds);
-    put_walk(&mut walks, last, 1, 2, 10);
-    check_walks(count, &walks);
-}
-
-fn heads_of(stops: u32, routes: u32, walks: u32) -> Heads {
-    Heads {
-        stops,
-        routes,
-        walks,
+// So many of 64 routes of two positions and one trip.
+fn many_routes(rt: &impl Print, count: u32) -> io::Result<()> {
+    let mut tables = Tables::new(1, count, 0);
+    for r in 0u32..64 {
+        tables.set_route(r as usize, [2, 1, r * 2, r * 2]);
     }
+    tables.set_times(0, 2);
+    print_check(rt, tables.lent())
 }
 
-fn changed(table: u32, at: usize, value: u32) {
-    one_route(heads_of(2, 1, 1), 2, 1, Change { table, at, value });
+// Walk 0 to 1 of 10 s, walk 0 to 2, and 1 to 2 of 10 s as walk `last`, of so many between three stops.
+fn three_walks(rt: &impl Print, seconds: u32, last: usize, count: u32) -> io::Result<()>
+    requires { last < 512 }
+{
+    let mut tables = Tables::new(3, 0, count);
+    tables.set_walk(0, [0, 1, 10]);
+    tables.set_walk(1, [0, 2, seconds]);
+    tables.set_walk(last, [1, 2, 10]);
+    print_check(rt, tables.lent())
 }
 
-// A route of n positions and m trips, with nothing changed.
-fn counts(n: u32, m: u32) {
-    one_route(
-        heads_of(1, 1, 0),
-        n,
-        m,
-        Change {
-            table: 2,
-            at: 0,
-            value: 0,
+// A route of two positions and one trip, with one number changed.
+fn changed(rt: &impl Print, table: Table, at: usize, value: u32) -> io::Result<()> {
+    let mut tables = one_route(Tables::new(2, 1, 1), 2, 1);
+    tables.set(Change { table, at, value });
+    print_check(rt, tables.lent())
+}
+
+// A route of n positions and m trips.
+fn counts(rt: &impl Print, n: u32, m: u32) -> io::Result<()>
+    requires { 0 < n }
+{
+    print_check(rt, one_route(Tables::new(1, 1, 0), n, m).lent())
+}
+
+fn heads_alone(rt: &impl Print, stops: u32, routes: u32, walks: u32) -> io::Result<()> {
+    print_check(
+        rt,
+        one_route(Tables::new(stops, routes, walks), 2, 1).lent(),
+    )
+}
+
+fn times_and_seconds(rt: &impl Print) -> io::Result<()> {
+    changed(rt, Table::Times, 1, 172799)?;
+    changed(rt, Table::Times, 1, 172800)?;
+    changed(rt, Table::Walks, 2, 3600)?;
+    changed(rt, Table::Walks, 2, 3601)
+}
+
+fn route_counts(rt: &impl Print) -> io::Result<()> {
+    counts(rt, 1, 1)?;
+    counts(rt, 2, 1)?;
+    counts(rt, 64, 1)?;
+    counts(rt, 65, 1)?;
+    counts(rt, 2, 0)?;
+    counts(rt, 2, 512)?;
+    counts(rt, 2, 513)?;
+    many_routes(rt, 64)?;
+    many_routes(rt, 65)?;
+    two_routes(rt, 64, 1)?;
+    two_routes(rt, 13, 5)
+}
+
+fn head_counts(rt: &impl Print) -> io::Result<()> {
+    heads_alone(rt, 0, 0, 0)?;
+    heads_alone(rt, 1, 0, 0)?;
+    heads_alone(rt, 256, 0, 0)?;
+    heads_alone(rt, 257, 0, 0)?;
+    heads_alone(rt, u32::MAX, 0, 0)?;
+    heads_alone(rt, 1, u32::MAX, 0)?;
+    heads_alone(rt, 1, 0, u32::MAX)
+}
+
+// Tables with no route and no walk, and then each of them one number short.
+fn one_short(rt: &impl Print) -> io::Result<()> {
+    let full = Tables::new(1, 0, 0);
+    let tables = full.lent();
+    let routes = &full.routes[..255];
+    let positions = &full.positions[..2047];
+    let arrivals = &full.arrivals[..2047];
+    let departures = &full.departures[..2047];
+    let walks = &full.walks[..1535];
+    print_check(rt, tables)?;
+    print_check(rt, Lent { routes, ..tables })?;
+    print_check(
+        rt,
+        Lent {
+            positions,
+            ..tables
         },
-    );
-}
-
-fn heads_alone(stops: u32, routes: u32, walks: u32) {
-    one_route(
-        heads_of(stops, routes, walks),
-        2,
-        1,
-        Change {
-            table: 2,
-            at: 0,
-            value: 0,
+    )?;
+    print_check(rt, Lent { arrivals, ..tables })?;
+    print_check(
+        rt,
+        Lent {
+            departures,
+            ..tables
         },
-    );
-}
-
-fn times_and_seconds() {
-    changed(0, 1, 172799);
-    changed(0, 1, 172800);
-    changed(5, 2, 3600);
-    changed(5, 2, 3601);
-}
-
-fn route_counts() {
-    counts(1, 1);
-    counts(2, 1);
-    counts(64, 1);
-    counts(65, 1);
-    counts(2, 0);
-    counts(2, 512);
-    counts(2, 513);
-    many_routes(64);
-    many_routes(65);
-    two_routes(64, 1);
-    two_routes(13, 5);
-}
-
-fn head_counts() {
-    heads_alone(0, 0, 0);
-    heads_alone(1, 0, 0);
-    heads_alone(256, 0, 0);
-    heads_alone(257, 0, 0);
-    heads_alone(4294967295, 0, 0);
-    heads_alone(1, 4294967295, 0);
-    heads_alone(1, 0, 4294967295);
-}
-
-fn one_short() {
-    parts(256, 2048, 2048, 2048, 1536);
-    parts(255, 2048, 2048, 2048, 1536);
-    parts(256, 2047, 2048, 2048, 1536);
-    parts(256, 2048, 2047, 2048, 1536);
-    parts(256, 2048, 2048, 2047, 1536);
-    parts(256, 2048, 2048, 2048, 1535);
+    )?;
+    print_check(rt, Lent { walks, ..tables })
 }
 
 // The largest number in each field of tables 1 to 5.
-fn largest() {
-    changed(1, 0, 4294967295);
-    changed(1, 1, 4294967295);
-    changed(1, 2, 4294967295);
-    changed(1, 3, 4294967295);
-    changed(2, 1, 4294967295);
-    changed(3, 0, 4294967295);
-    changed(4, 0, 4294967295);
-    changed(5, 0, 4294967295);
-    changed(5, 1, 4294967295);
-    changed(5, 2, 4294967295);
+fn largest(rt: &impl Print) -> io::Result<()> {
+    for field in 0..4 {
+        changed(rt, Table::Routes, field, u32::MAX)?;
+    }
+    changed(rt, Table::Positions, 1, u32::MAX)?;
+    changed(rt, Table::Arrivals, 0, u32::MAX)?;
+    changed(rt, Table::Departures, 0, u32::MAX)?;
+    for field in 0..3 {
+        changed(rt, Table::Walks, field, u32::MAX)?;
+    }
+    Ok(())
 }
 
-fn main() {
-    times_and_seconds();
-    route_counts();
-    head_counts();
-    one_short();
-    largest();
-    three_walks(0, 1, 2);
-    three_walks(20, 2, 3);
-    three_walks(21, 2, 3);
+fn main(rt: HostRuntime) -> io::Result<()> {
+    times_and_seconds(&rt)?;
+    route_counts(&rt)?;
+    head_counts(&rt)?;
+    one_short(&rt)?;
+    largest(&rt)?;
+    three_walks(&rt, 0, 1, 2)?;
+    three_walks(&rt, 20, 2, 3)?;
+    three_walks(&rt, 21, 2, 3)
 }

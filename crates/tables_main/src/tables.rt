@@ -1,77 +1,115 @@
-// Tables 1 to 5 of small timetables, with one number changed if that is wanted.
+// Tables 1 to 5 of small timetables, of their full size.
+ghost use Rattle.std.specs.Prelude.{◌<◌, ◌≤◌};
+
+use paper::{Heads, Lent};
+
+#[derive(Clone, Copy)]
+pub struct Tables {
+    pub heads: Heads,
+    pub routes: [u32; 256],
+    pub positions: [u32; 2048],
+    pub arrivals: [u32; 2048],
+    pub departures: [u32; 2048],
+    pub walks: [u32; 1536],
+}
+
+#[derive(Clone, Copy)]
+pub enum Table {
+    Routes,
+    Positions,
+    Arrivals,
+    Departures,
+    // both tables of times
+    Times,
+    Walks,
+}
+
+// One number of the tables is another.
+#[derive(Clone, Copy)]
+pub struct Change {
+    pub table: Table,
+    pub at: usize,
+    pub value: u32,
+}
+
+// From its first event on every time is its position, in trips of n that are all equal.
+fn fill_times(times: &mut [u32], n: u32)
+    requires { 0 < n }
+{
+    for (e, time) in times.iter_mut().enumerate() {
+        *time = (e % n as usize) as u32;
+    }
+}
 
 fn put(table: &mut [u32], at: usize, value: u32) {
-    if at < table.len() {
-        table[at] = value;
+    if let Some(number) = table.get_mut(at) {
+        *number = value;
     }
 }
 
-fn put_if(wanted: bool, table: &mut [u32], at: usize, value: u32) {
-    if wanted {
-        put(table, at, value);
+impl Tables {
+    // Every number is zero.
+    pub fn new(stops: u32, routes: u32, walks: u32) -> Tables {
+        Tables {
+            heads: Heads {
+                stops,
+                routes,
+                walks,
+            },
+            routes: [0; 256],
+            positions: [0; 2048],
+            arrivals: [0; 2048],
+            departures: [0; 2048],
+            walks: [0; 1536],
+        }
     }
-}
 
-// From event `first` on every time is its position, in trips of n that are all equal.
-pub fn fill_times(times: &mut [u32], first: usize, n: u32) {
-    let mut time: u32 = 0;
-    for e in first..2048 {
-        put(times, e, time);
-        time = if time + 1 < n { time + 1 } else { 0 };
+    pub fn lent(&self) -> Lent<'_> {
+        Lent {
+            heads: self.heads,
+            routes: &self.routes,
+            positions: &self.positions,
+            arrivals: &self.arrivals,
+            departures: &self.departures,
+            walks: &self.walks,
+        }
     }
-}
 
-// The numbers of route r.
-pub fn put_route(routes: &mut [u32], r: u32, n: u32, m: u32, position: u32, event: u32) {
-    let at = (r as usize) * 4;
-    put(routes, at, n);
-    put(routes, at + 1, m);
-    put(routes, at + 2, position);
-    put(routes, at + 3, event);
-}
+    // A route's n, m, first position and first event.
+    pub fn set_route(&mut self, r: usize, route: [u32; 4])
+        requires { r < 64 }
+    {
+        self.routes[r * 4..r * 4 + 4].copy_from_slice(&route);
+    }
 
-// The numbers of walk w.
-pub fn put_walk(walks: &mut [u32], w: u32, from: u32, to: u32, seconds: u32) {
-    let at = (w as usize) * 3;
-    put(walks, at, from);
-    put(walks, at + 1, to);
-    put(walks, at + 2, seconds);
-}
+    // A walk's from, to and seconds.
+    pub fn set_walk(&mut self, w: usize, walk: [u32; 3])
+        requires { w < 512 }
+    {
+        self.walks[w * 3..w * 3 + 3].copy_from_slice(&walk);
+    }
 
-// Table 1 with one route, and a change if one is wanted there.
-pub fn routes_of(n: u32, m: u32, wanted: bool, at: usize, value: u32) -> [u32; 256] {
-    let mut routes: [u32; 256] = [0; 256];
-    put_route(&mut routes, 0, n, m, 0, 0);
-    put_if(wanted, &mut routes, at, value);
-    routes
-}
+    // The times from an event on, at which trips of n positions begin.
+    pub fn set_times(&mut self, first: usize, n: u32)
+        requires event { first ≤ 2048 }
+        requires some { 0 < n }
+    {
+        fill_times(&mut self.arrivals[first..], n);
+        fill_times(&mut self.departures[first..], n);
+    }
 
-// Table 2 with stop 0 only.
-pub fn positions_of(wanted: bool, at: usize, value: u32) -> [u32; 2048] {
-    let mut positions: [u32; 2048] = [0; 2048];
-    put_if(wanted, &mut positions, at, value);
-    positions
-}
-
-// Table 3 or 4.
-pub fn times_of(n: u32, wanted: bool, at: usize, value: u32) -> [u32; 2048] {
-    let mut times: [u32; 2048] = [0; 2048];
-    fill_times(&mut times, 0, n);
-    put_if(wanted, &mut times, at, value);
-    times
-}
-
-// Table 5 with one walk from 0 to 1.
-pub fn walks_of(wanted: bool, at: usize, value: u32) -> [u32; 1536] {
-    let mut walks: [u32; 1536] = [0; 1536];
-    put_walk(&mut walks, 0, 0, 1, 10);
-    put_if(wanted, &mut walks, at, value);
-    walks
-}
-
-// 64 routes of two positions and one trip.
-pub fn fill_routes(routes: &mut [u32]) {
-    for r in 0..64 {
-        put_route(routes, r, 2, 1, r * 2, r * 2);
+    pub fn set(&mut self, change: Change) {
+        let Change { table, at, value } = change;
+        match table {
+            Table::Routes => put(&mut self.routes, at, value),
+            Table::Positions => put(&mut self.positions, at, value),
+            Table::Arrivals => put(&mut self.arrivals, at, value),
+            Table::Departures => put(&mut self.departures, at, value),
+            Table::Times => {
+                put(&mut self.arrivals, at, value);
+                put(&mut self.departures, at, value);
+            }
+            Table::Walks => put(&mut self.walks, at, value),
+        }
     }
 }

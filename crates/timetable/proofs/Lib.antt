@@ -1,3 +1,4 @@
 -- What the functions' proofs cite.
 pub mod CountTests
 pub mod Faults
+pub mod Short

@@ -1,3 +1,4 @@
 -- What the functions of the rules take and promise.
-pub mod Places
+pub mod Counts
+pub mod Fault
 pub mod Needed

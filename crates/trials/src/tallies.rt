@@ -1,115 +1,89 @@
-// What was tried, counted. Tallies 0 to 8 are the questions that had so many entries.
-use second::tables::{ARRIVALS, DEPARTURES, Line, count_of, line_of, plus, stop_of, time_of};
+// What was tried, counted.
+use paper::{Answer, Lent, Reason};
+use second::lines::{Line, line_of};
 
-pub const NETWORKS: usize = 9;
-
-pub const ROUTES: usize = 10;
-
-pub const CIRCLES: usize = 11;
-
-pub const TRIPS: usize = 12;
-
-pub const EQUAL_TRIPS: usize = 13;
-
-pub const NO_TIME: usize = 14;
-
-pub const WALKS: usize = 15;
-
-pub const QUESTIONS: usize = 16;
-
-pub const OVER_BUDGET: usize = 17;
-
-pub const NO_WAY: usize = 18;
-
-pub const DIFFERENCES: usize = 19;
-
-// n more in tally i.
-pub fn tally(mut tallies: [u32; 20], i: usize, n: u32) -> [u32; 20] {
-    if i < 20 {
-        tallies[i] = plus(tallies[i], n);
-    }
-    tallies
+#[derive(Clone, Copy, Default)]
+pub struct Tallies {
+    pub networks: u32,
+    pub routes: u32,
+    pub circles: u32,
+    pub trips: u32,
+    pub equal_trips: u32,
+    pub rides_of_no_time: u32,
+    pub walks: u32,
+    pub questions: u32,
+    // the questions that had so many entries
+    pub entries: [u32; 9],
+    pub over_budget: u32,
+    pub no_way: u32,
+    pub differences: u32,
 }
 
-// Does a line visit the stop of position i before it?
-fn returns(net: &[u32], line: Line, i: u32) -> bool {
-    for earlier in 0..i {
-        if stop_of(net, line, i) == stop_of(net, line, earlier) {
-            return true;
-        }
-    }
-    false
+// So many more in a tally.
+fn more(tally: &mut u32, n: u32) {
+    *tally = tally.saturating_add(n);
 }
 
 // Does a line visit a stop twice?
-fn circles(net: &[u32], line: Line) -> bool {
-    let n = line.n;
-    for i in 0..n {
-        if returns(net, line, i) {
-            return true;
-        }
-    }
-    false
-}
-
-// Is a trip at position i when the trip `ahead` is?
-fn meets(net: &[u32], line: Line, trip: u32, ahead: u32, i: u32) -> bool {
-    let arrive = time_of(net, ARRIVALS, line, trip, i);
-    let depart = time_of(net, DEPARTURES, line, trip, i);
-    (arrive == time_of(net, ARRIVALS, line, ahead, i))
-        & (depart == time_of(net, DEPARTURES, line, ahead, i))
-}
-
-// Is a trip at every position when the trip ahead is?
-fn equals_ahead(net: &[u32], line: Line, trip: u32) -> bool {
-    if trip == 0 {
-        return false;
-    }
-    let n = line.n;
-    for i in 0..n {
-        if !meets(net, line, trip, trip - 1, i) {
-            return false;
-        }
-    }
-    true
+fn is_circle(line: Line) -> bool {
+    let stops = line.stops;
+    stops
+        .iter()
+        .enumerate()
+        .any(|(i, stop)| stops[..i].contains(stop))
 }
 
 // A trip's rides to the next position that take no time.
-fn rides_of_no_time(net: &[u32], line: Line, trip: u32) -> u32 {
-    let n = line.n;
-    let mut sum = 0;
-    for i in 1..n {
-        let left = time_of(net, DEPARTURES, line, trip, i - 1);
-        sum = plus(sum, (time_of(net, ARRIVALS, line, trip, i) == left) as u32);
+fn rides_of_no_time(arrivals: &[u32], departures: &[u32]) -> u32 {
+    let mut rides = 0;
+    for (arrives, departs) in arrivals.iter().skip(1).zip(departures) {
+        if arrives == departs {
+            more(&mut rides, 1);
+        }
     }
-    sum
+    rides
 }
 
-fn survey_trip(tallies: [u32; 20], net: &[u32], line: Line, trip: u32) -> [u32; 20] {
-    let one = tally(tallies, TRIPS, 1);
-    let two = tally(one, EQUAL_TRIPS, equals_ahead(net, line, trip) as u32);
-    tally(two, NO_TIME, rides_of_no_time(net, line, trip))
-}
-
-fn survey_line(tallies: [u32; 20], net: &[u32], line: Line) -> [u32; 20] {
-    let m = line.m;
-    let mut all = tally(tallies, CIRCLES, circles(net, line) as u32);
-    for trip in 0..m {
-        let more = survey_trip(all, net, line, trip);
-        all = more;
+impl Tallies {
+    fn survey_line(&mut self, line: Line) {
+        more(&mut self.circles, is_circle(line) as u32);
+        let arrivals = line.arrivals.chunks_exact(line.n as usize);
+        let departures = line.departures.chunks_exact(line.n as usize);
+        let mut ahead = None;
+        for trip in arrivals.zip(departures) {
+            more(&mut self.trips, 1);
+            more(&mut self.equal_trips, (ahead == Some(trip)) as u32);
+            more(&mut self.rides_of_no_time, rides_of_no_time(trip.0, trip.1));
+            ahead = Some(trip);
+        }
     }
-    all
-}
 
-// What a network has.
-pub fn survey(tallies: [u32; 20], net: &[u32]) -> [u32; 20] {
-    let count = count_of(net, 1);
-    let one = tally(tallies, NETWORKS, 1);
-    let two = tally(one, ROUTES, count);
-    let mut all = tally(two, WALKS, count_of(net, 2));
-    for r in 0..count {
-        let more = survey_line(all, net, line_of(net, r));
-        all = more;
+    // What a network has.
+    pub fn survey(&mut self, tables: Lent) {
+        more(&mut self.networks, 1);
+        more(&mut self.routes, tables.heads.routes);
+        more(&mut self.walks, tables.heads.walks);
+        for route in 0..tables.heads.routes {
+            self.survey_line(line_of(tables, route));
+        }
     }
-    all
+
+    // What came of a question.
+    pub fn record(&mut self, answer: &Answer, same: bool) {
+        more(&mut self.questions, 1);
+        if let Some(tally) = self.entries.get_mut(answer.count as usize) {
+            more(tally, 1);
+        }
+        if let Err(refusal) = answer.verdict {
+            more(
+                &mut self.over_budget,
+                (refusal.number == Reason::Budget as u32) as u32,
+            );
+            more(
+                &mut self.no_way,
+                (refusal.number == Reason::NoWay as u32) as u32,
+            );
+        }
+        more(&mut self.differences, !same as u32);
+    }
 }

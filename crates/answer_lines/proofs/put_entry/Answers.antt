@@ -1,8 +1,8 @@
 -- `answer_lines::put_entry` meets its contract.
-use Rattle.lettering.proofs.Puts.{put_append}
+use Rattle.lettering.proofs.Puts.{wrote_append}
 use Rattle.paper.specs.Lines.{entry_lines}
 use Rattle.answer_lines.proofs.put_entry.Goals as goal
 
 pub returns : goal.returns
 unfolding entry_lines
-returns c = put_append c.put_trips-next.ensures c.put_legs.ensures
+returns c = wrote_append c.put_trips.ensures c.put_legs.ensures

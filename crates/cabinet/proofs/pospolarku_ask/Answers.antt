@@ -5,6 +5,6 @@ pub returns : goal.returns
 returns c = record {
   answer = _;
   replied = c.ask-answer.ensures;
-  number = c.verdict_number.ensures;
+  number = c.checked_number.ensures;
   entries_are = c.put_entries.ensures;
 }

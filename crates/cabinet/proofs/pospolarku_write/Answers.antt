@@ -2,4 +2,4 @@
 use Rattle.cabinet.proofs.pospolarku_write.Goals as goal
 
 pub returns : goal.returns
-returns c = record { writing = _; sends = c.write.ensures; number = c.writing_number.ensures }
+returns c = record { writing = _; sends = c.write.ensures; number = c.checked_number.ensures }

@@ -1,19 +1,8 @@
-use mathlib.Core.Path.{◌∙◌}
-use native.Mathlib.Omega.{arith}
-use Rattle.laws.proofs.Runs.{mark_is, writing_start, writing_more, writing_end, written_marks}
+-- `journeys::clear` meets its contract: what the library's `fill` gives, and what stood past it.
+use Rattle.laws.specs.Below.{mark}
+use Rattle.laws.proofs.Runs.{front_marked}
 use Rattle.journeys.proofs.clear.Goals as goal
 
-pub loop-i-init : goal.loop-i-init
-loop-i-init c = writing_start _ _ _ _
-
-pub bounds-legs-i : goal.bounds-legs-i
-bounds-legs-i c = omega (arith, c.loop-i.invariant.size)
-
-pub loop-i-preserved : goal.loop-i-preserved
-loop-i-preserved c = writing_more _ _ _ _ _ _ c.loop-i.invariant c.requires c.loop-i-test.true (omega arith) mark_is
-
-pub shape_of-legs : goal.shape_of-legs
-shape_of-legs c = c.loop-i.invariant.size
-
 pub returns : goal.returns
-returns c = writing_end _ _ _ _ _ _ c.loop-i.invariant c.loop-i-test.false ∙ written_marks _ _
+unfolding mark
+returns c = front_marked _ _ c.requires (c.fill.ensures.after (λ y h. h))

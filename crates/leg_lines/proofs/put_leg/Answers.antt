@@ -3,4 +3,4 @@ use Rattle.leg_lines.proofs.Leg.{put_legged}
 use Rattle.leg_lines.proofs.put_leg.Goals as goal
 
 pub returns : goal.returns
-returns c = put_legged _ _ c.put_ride-next.ensures c.put_walk.ensures
+returns c = put_legged _ _ c.put_ride.ensures c.put_walk.ensures

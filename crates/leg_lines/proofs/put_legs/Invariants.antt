@@ -5,7 +5,4 @@ use Rattle.lettering.proofs.Puts.{Along}
 use Rattle.leg_lines.proofs.put_legs.Given as goal
 
 abbrev pub invariant-loop-i : goal.invariant-loop-i
-invariant-loop-i l = Along (λ k. leg_line l.legs ((l.rides - 1) * 40 + k * 5)) 55 l.rides l.at l.initial.out l.out l.next l.i
-
-abbrev pub decreases-loop-i : goal.decreases-loop-i
-decreases-loop-i l = l.rides - l.i
+invariant-loop-i l = Along (λ k. leg_line l.legs ((l.rides - 1) * 40 + k * 5)) 55 l.rides l.initial.pen l.pen l.i

@@ -1,32 +1,74 @@
--- `question_line::parse` meets its contract: which number is bad, or that all five are read.
-use mathlib.Core.Path.{sym, ◌∙◌}
-use Rattle.question_line.proofs.Chain.{bad_first, bad_second, bad_third, bad_fourth, bad_fifth, too_long, all_read}
-use borrow.Author.Rules.{rules}
+-- `question_line::parse` meets its contract: the first number that is not read, or the length, or all five.
+use mathlib.Core.Path.{◌∙◌}
+use borrow.Author.Tests.{le-leb, lt-leb}
+use Rattle.question_line.proofs.Chain.{chain, parse_is}
 use Rattle.question_line.proofs.parse.Goals as goal
 
-pub returns-in_default : goal.returns-in_default
-returns-in_default c = bad_first _ (sym c.number_at.ensures ∙ c.in_default.is)
+pub returns-in_err-start : goal.returns-in_err-start
+unfolding chain
+returns-in_err-start c =
+    c.from_residual.ensures
+    ∙ rw (← c.in_err-start.ensures) at (parse_is c.args.input.now)
 
-pub returns-in_default-number_at : goal.returns-in_default-number_at
-returns-in_default-number_at c =
-    bad_second _ (sym c.number_at.ensures ∙ c.in-Number.is) (sym c.number_at-2.ensures ∙ c.in_default-number_at.is)
+pub returns-in_err-target : goal.returns-in_err-target
+unfolding chain
+returns-in_err-target c =
+    c.from_residual-in_err-target.ensures
+    ∙ rw (← c.in_ok-start.ensures, ← c.in_err-target.ensures) at (parse_is c.args.input.now)
 
-pub returns-in_default-number_at-2 : goal.returns-in_default-number_at-2
-returns-in_default-number_at-2 c =
-    bad_third _ (sym c.number_at.ensures ∙ c.in-Number.is) (sym c.number_at-2.ensures ∙ c.in-Number-number_at.is) (sym c.number_at-3.ensures ∙ c.in_default-number_at-2.is)
+pub returns-in_err-time : goal.returns-in_err-time
+unfolding chain
+returns-in_err-time c =
+    c.from_residual-in_err-time.ensures
+    ∙ rw (
+      ← c.in_ok-start.ensures,
+      ← c.in_ok-target.ensures,
+      ← c.in_err-time.ensures,
+    ) at (parse_is c.args.input.now)
 
-pub returns-in_default-number_at-3 : goal.returns-in_default-number_at-3
-returns-in_default-number_at-3 c =
-    bad_fourth _ (sym c.number_at.ensures ∙ c.in-Number.is) (sym c.number_at-2.ensures ∙ c.in-Number-number_at.is) (sym c.number_at-3.ensures ∙ c.in-Number-number_at-2.is) (sym c.number_at-4.ensures ∙ c.in_default-number_at-3.is)
+pub returns-in_err-limit : goal.returns-in_err-limit
+unfolding chain
+returns-in_err-limit c =
+    c.from_residual-in_err-limit.ensures
+    ∙ rw (
+      ← c.in_ok-start.ensures,
+      ← c.in_ok-target.ensures,
+      ← c.in_ok-time.ensures,
+      ← c.in_err-limit.ensures,
+    ) at (parse_is c.args.input.now)
 
-pub returns-in_default-number_at-4 : goal.returns-in_default-number_at-4
-returns-in_default-number_at-4 c =
-    bad_fifth _ (sym c.number_at.ensures ∙ c.in-Number.is) (sym c.number_at-2.ensures ∙ c.in-Number-number_at.is) (sym c.number_at-3.ensures ∙ c.in-Number-number_at-2.is) (sym c.number_at-4.ensures ∙ c.in-Number-number_at-3.is) (sym c.number_at-5.ensures ∙ c.in_default-number_at-4.is)
+pub returns-in_err-budget : goal.returns-in_err-budget
+unfolding chain
+returns-in_err-budget c =
+    c.from_residual-in_err-budget.ensures
+    ∙ rw (
+      ← c.in_ok-start.ensures,
+      ← c.in_ok-target.ensures,
+      ← c.in_ok-time.ensures,
+      ← c.in_ok-limit.ensures,
+      ← c.in_err-budget.ensures,
+    ) at (parse_is c.args.input.now)
 
 pub returns-then-end-gt81 : goal.returns-then-end-gt81
+unfolding chain
 returns-then-end-gt81 c =
-    too_long _ (sym c.number_at.ensures ∙ c.in-Number.is) (sym c.number_at-2.ensures ∙ c.in-Number-number_at.is) (sym c.number_at-3.ensures ∙ c.in-Number-number_at-2.is) (sym c.number_at-4.ensures ∙ c.in-Number-number_at-3.is) (sym c.number_at-5.ensures ∙ c.in-Number-number_at-4.is) (search rules)
+    rw (
+      ← c.in_ok-start.ensures,
+      ← c.in_ok-target.ensures,
+      ← c.in_ok-time.ensures,
+      ← c.in_ok-limit.ensures,
+      ← c.in_ok-budget.ensures,
+      lt-leb _ _ c.if-end-gt81.true,
+    ) at (parse_is c.args.input.now)
 
 pub returns : goal.returns
+unfolding chain
 returns c =
-    all_read _ (sym c.number_at.ensures ∙ c.in-Number.is) (sym c.number_at-2.ensures ∙ c.in-Number-number_at.is) (sym c.number_at-3.ensures ∙ c.in-Number-number_at-2.is) (sym c.number_at-4.ensures ∙ c.in-Number-number_at-3.is) (sym c.number_at-5.ensures ∙ c.in-Number-number_at-4.is) (search rules)
+    rw (
+      ← c.in_ok-start.ensures,
+      ← c.in_ok-target.ensures,
+      ← c.in_ok-time.ensures,
+      ← c.in_ok-limit.ensures,
+      ← c.in_ok-budget.ensures,
+      le-leb _ _ c.if-end-gt81.false,
+    ) at (parse_is c.args.input.now)

@@ -5,8 +5,8 @@ use Rattle.records.proofs.ends.Goals as goal
 
 pub returns-then-at-n : goal.returns-then-at-n
 unfolding ended
-returns-then-at-n c = simp (ended, eq-eqb _ _ c.if-at-n.true) c.stands.ensures
+returns-then-at-n c = simp (eq-eqb _ _ c.if-at-n.true) c.stands.ensures
 
-pub returns : goal.returns
+pub returns-else-at-n : goal.returns-else-at-n
 unfolding ended
-returns c = simp (ended, ne_eqb _ _ c.if-at-n.false)
+returns-else-at-n c = simp (ne_eqb _ _ c.if-at-n.false)

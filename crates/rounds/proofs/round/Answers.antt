@@ -1,20 +1,16 @@
 -- `rounds::round` meets its contract: what `ride`, `walk` and `write_row` give makes the round.
 use native.Mathlib.Omega.{arith}
 use Rattle.laws.specs.Below.{mark}
-use Rattle.scan.proofs.Fitting.{rideable, walkable}
-use Rattle.rounds.proofs.Rounding.{reach_size, row_long, work_few, round_done}
+use Rattle.scan.proofs.Fitting.{rideable}
+use Rattle.rounds.proofs.Rounding.{row_long, work_few, round_done}
 use Rattle.rounds.proofs.round.Goals as goal
 
 pub ride-rides-requires : goal.ride-rides-requires
 ride-rides-requires c = rideable _ c.requires.fit _ (row_long _ _ _ c.requires)
 
-pub walk-steps-requires : goal.walk-steps-requires
+pub overflow_add-result : goal.overflow_add-result
 unfolding mark
-walk-steps-requires c = walkable _ c.requires.fit _ (reach_size c.ride-rides.ensures)
-
-pub overflow_add-work : goal.overflow_add-work
-unfolding mark
-overflow_add-work c =
+overflow_add-result c =
     omega (arith, work_few _ _ _ c.requires c.ride-rides.ensures c.walk-steps.ensures)
 
 pub returns : goal.returns

@@ -1,10 +1,9 @@
--- `route_records::read_routes` meets its contract: the loop keeps `Routing`.
-use Prim.Native.Nat.{◌-◌}
-use Rattle.route_records.proofs.Routing.{Routing}
+-- `route_records::read_routes` meets its contract: so many routes are well.
+use Rattle.std.proofs.Common.{Ok}
+use Rattle.laws.specs.Below.{iterate}
+use Rattle.paper.specs.Reading.{next_route, no_routes}
+use Rattle.route_records.specs.State.{RoutesOn, no_mid}
 use Rattle.route_records.proofs.read_routes.Given as goal
 
-abbrev pub invariant-loop-j : goal.invariant-loop-j
-invariant-loop-j l = Routing l.f l.e l.k l.initial.routes l.initial.positions l.initial.arrivals l.initial.departures l.j l.q l.routes l.positions l.arrivals l.departures
-
-abbrev pub decreases-loop-j : goal.decreases-loop-j
-decreases-loop-j l = l.k - l.j
+abbrev pub invariant-loop : goal.invariant-loop
+invariant-loop l = RoutesOn l.e l.counter no_mid (iterate l.counter (next_route l.f l.e) no_routes) (Ok l.q) l.initial.room l.room

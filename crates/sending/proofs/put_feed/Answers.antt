@@ -1,22 +1,27 @@
 -- `sending::put_feed` meets its contract: head, routes, walks and end make the feed.
-use Rattle.sending.proofs.Sent.{puts_then}
+use mathlib.Core.Path.{refl}
+use borrow.Author.Rules.{rules}
+use Rattle.sending.proofs.Sent.{puts_last, sent_then}
 use Rattle.sending.proofs.Feed.{can_head, can_routes, can_walks, can_end, feed_end}
 use Rattle.sending.proofs.put_feed.Goals as goal
 
-pub put_head-a-requires : goal.put_head-a-requires
-put_head-a-requires c = can_head c.requires
+pub put_head-requires : goal.put_head-requires
+put_head-requires c = can_head c.args.tables c.requires refl
 
-pub put_routes-b-requires : goal.put_routes-b-requires
-put_routes-b-requires c = can_routes c.requires c.put_head-a.ensures
+pub put_routes-requires : goal.put_routes-requires
+put_routes-requires c = can_routes c.args.tables _ c.requires refl c.put_head.ensures
 
-pub put_walks-c-requires : goal.put_walks-c-requires
-put_walks-c-requires c =
-    can_walks c.requires (puts_then c.put_head-a.ensures c.put_routes-b.ensures)
+pub put_walks-requires : goal.put_walks-requires
+put_walks-requires c =
+    can_walks c.args.tables _ c.requires refl (sent_then c.put_head.ensures c.put_routes.ensures)
 
 pub put_end-requires : goal.put_end-requires
 put_end-requires c =
-    can_end c.requires (puts_then c.put_head-a.ensures (puts_then c.put_routes-b.ensures c.put_walks-c.ensures))
+    can_end c.args.tables _ c.requires refl
+    (sent_then c.put_head.ensures (sent_then c.put_routes.ensures c.put_walks.ensures))
 
 pub returns : goal.returns
 returns c =
-    feed_end c.requires (puts_then c.put_head-a.ensures (puts_then c.put_routes-b.ensures c.put_walks-c.ensures)) c.put_end.ensures
+    let front = sent_then c.put_head.ensures (sent_then c.put_routes.ensures c.put_walks.ensures) in
+    let all = feed_end c.args.tables _ c.requires refl front c.put_end.ensures in
+    puts_last all.puts (search rules)

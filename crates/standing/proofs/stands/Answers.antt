@@ -7,9 +7,9 @@ use Rattle.standing.proofs.stands.Goals as goal
 
 pub returns-then-e-at : goal.returns-then-e-at
 unfolding marked
-returns-then-e-at c = simp (marked, lt-leb _ _ c.if-e-at.true)
+returns-then-e-at c = simp (lt-leb _ _ c.if-e-at.true)
 
 pub returns : goal.returns
 returns c =
-    let a = c.args in
-    begins_stands a.f.now a.e a.at a.k a.p a.q c.requires.within c.requires.mark c.if-e-at.false (omega arith) (omega arith) c.begins_in.ensures
+    let r = c.requires in
+    begins_stands _ _ _ _ _ _ r.within r.mark c.if-e-at.false (omega arith) (omega arith) c.begins.ensures

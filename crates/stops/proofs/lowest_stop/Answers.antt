@@ -1,25 +1,13 @@
-use Rattle.std.proofs.Common.{ap, not}
-use Rattle.laws.proofs.Below.{passed_none, passed_more}
-use Rattle.paper.proofs.Places.{stop_whole}
-use Rattle.places.proofs.Lowest.{at_lowest, no_lowest}
-use Rattle.stops.proofs.StopTests.{stop_broken_lem, stop_none}
-use borrow.Author.Rules.{rules}
+-- `stops::lowest_stop`: the fold and the search tell 7's lowest place.
+use Rattle.std.proofs.Common.{◌≡◌, sym, rules, ◌∙◌}
+use Rattle.stops.proofs.StopTests.{stop_none, stop_first}
 use Rattle.stops.proofs.lowest_stop.Goals as goal
 
-pub stops_wrong-requires : goal.stops_wrong-requires
-stops_wrong-requires c = c.requires
-
-pub returns-then-not-stops_wrong : goal.returns-then-not-stops_wrong
-returns-then-not-stops_wrong c = stop_none _ _ _ c.stops_wrong.ensures (ap not c.if-not-stops_wrong.true)
-
-pub loop-p-init : goal.loop-p-init
-loop-p-init c = (search rules, passed_none _)
-
-pub returns-then-positions-p : goal.returns-then-positions-p
-returns-then-positions-p c = at_lowest _ _ _ c.loop-p-test.true c.loop-p.invariant.1 (stop_broken_lem _ _ c.if-positions-p.true)
-
-pub loop-p-preserved : goal.loop-p-preserved
-loop-p-preserved c = (search rules, passed_more _ _ c.loop-p.invariant.1 (stop_whole _ _ c.if-positions-p.false))
+pub returns-then-all_stops : goal.returns-then-all_stops
+returns-then-all_stops c =
+    stop_none _ _ c.args.positions.now c.requires (sym c.all_stops.ensures ∙ c.if-all_stops.true)
 
 pub returns : goal.returns
-returns c = no_lowest _ _ _ (search rules) c.loop-p.invariant.1
+returns c =
+    let same : c.map.result ≡ c.first_wrong.result = search rules in
+    same ∙ c.first_wrong.ensures ∙ stop_first _ _ c.args.positions.now c.requires

@@ -1,41 +1,27 @@
--- `timetable::check`: 6, then 5 and 7 to 11, and the limit where nothing is refused.
-use mathlib.Core.Path.{◌≡◌, refl, sym, ◌∙◌}
-use Rattle.paper.specs.Timetable.{Tables, lent}
-use Rattle.paper.specs.Reply.{lengths_of}
-use Rattle.places.specs.declared.Place.{Place}
-use Rattle.places.specs.Place.{place_of}
-use Rattle.timetable.specs.Places.{short_place}
-use Rattle.timetable.proofs.Faults.{full_of, short_refused, fault_refused, check_done, limit_lent, limit_read}
+-- `timetable::check`: what refuses the tables, or their limit.
+use Rattle.std.proofs.lemmas.Result.{err_from_is_err_and}
+use Rattle.laws.proofs.Checking.{or_else_nothing}
+use Rattle.paper.specs.Timetable.{lent}
+use Rattle.paper.specs.Rules.{fault_of}
+use Rattle.paper.specs.Reply.{short_table, lengths_of, check_of}
+use Rattle.timetable.specs.Fault.{tables_fault}
+use Rattle.timetable.proofs.Faults.{done_some, done_none, counts_right, limit_lent}
+use Rattle.timetable.proofs.Short.{full_of}
 use Rattle.timetable.proofs.check.Goals as goal
-use Rattle.timetable.proofs.check.Goals.{After-short_table-short, In_default}
 
-abbrev T : After-short_table-short → Tables
-T c = let a = c.args in lent a.heads a.routes a.positions a.arrivals a.departures a.walks
-
--- 6 has refused nothing
-long_enough :
-    (c : In_default)
-    → Place.Nowhere ≡ place_of (short_place (lengths_of (lent c.args.heads c.args.routes c.args.positions c.args.arrivals c.args.departures c.args.walks)))
-long_enough c = sym c.in_default.is ∙ c.short_table-short.ensures
-
-pub returns-in-At : goal.returns-in-At
-returns-in-At c =
-    short_refused (T (goal.at.returns-in-At c).After-short_table-short) (sym c.in-At.is ∙ c.short_table-short.ensures)
-
-pub fault_of-requires : goal.fault_of-requires
-fault_of-requires c =
-    full_of (T (goal.at.fault_of-requires c).After-short_table-short) (long_enough (goal.at.fault_of-requires c).In_default)
+pub returns-in_err-tables_fault : goal.returns-in_err-tables_fault
+unfolding check_of tables_fault
+returns-in_err-tables_fault c =
+    let p = err_from_is_err_and c.from_residual.result c.from_residual.ensures.1 in
+    rw (p.1, p.2) (rw (done_some tt _ c.in_err-tables_fault.ensures))
 
 pub limit_of-requires : goal.limit_of-requires
+unfolding tables_fault
 limit_of-requires c =
-    let t = T (goal.at.limit_of-requires c).After-short_table-short in
-    limit_lent t (full_of t (long_enough (goal.at.limit_of-requires c).In_default)) (sym c.in-Unbroken.is ∙ c.fault_of.ensures) refl refl
+    let t = lent c.args.tables in
+    let n = or_else_nothing (short_table (lengths_of t)) (fault_of t) (done_none tt _ c.in_ok-tables_fault.ensures) in
+    limit_lent t (counts_right t (full_of t n.0) n.1)
 
-pub returns-in-Refused : goal.returns-in-Refused
-returns-in-Refused c =
-    fault_refused (T (goal.at.returns-in-Refused c).After-short_table-short) (long_enough (goal.at.returns-in-Refused c).In_default) (sym c.in-Refused.is ∙ c.fault_of.ensures)
-
-pub returns-in-Unbroken : goal.returns-in-Unbroken
-returns-in-Unbroken c =
-    let t = T (goal.at.returns-in-Unbroken c).After-short_table-short in
-    check_done t (long_enough (goal.at.returns-in-Unbroken c).In_default) (sym c.in-Unbroken.is ∙ c.fault_of.ensures) (limit_read t c.limit_of.ensures)
+pub returns : goal.returns
+unfolding check_of tables_fault
+returns c = rw (done_none tt _ c.in_ok-tables_fault.ensures, c.limit_of.ensures)

@@ -1,20 +1,13 @@
 -- `feed::body::read_body` meets its contract: what the two clearings leave.
-use Rattle.feed.proofs.Judge.{fill_room, filled_again, leaves_bad, leaves_good}
+use mathlib.Core.Path.{sym, ◌∙◌}
+use Rattle.feed.proofs.Clearing.{leaves_cleared, leaves_filled}
 use Rattle.feed.proofs.body.read_body.Goals as goal
 
-pub clear-requires : goal.clear-requires
-clear-requires c = c.requires.full
+pub returns-then-is_err-clause-leaves : goal.returns-then-is_err-clause-leaves
+returns-then-is_err-clause-leaves c =
+    leaves_cleared c.clear.ensures _ (sym c.is_err.ensures.value ∙ c.if-is_err.true) c.fill-read.ensures
+    c.clear-then-is_err.ensures
 
-pub fill-requires : goal.fill-requires
-fill-requires c = fill_room c.clear.ensures c.requires
-
-pub clear-requires-in-Refused : goal.clear-requires-in-Refused
-clear-requires-in-Refused c =
-    filled_again c.clear.ensures c.fill.ensures c.requires
-
-pub returns-in-Done : goal.returns-in-Done
-returns-in-Done c = leaves_good c.clear.ensures c.fill.ensures c.in-Done.is
-
-pub returns-in-Refused : goal.returns-in-Refused
-returns-in-Refused c =
-    leaves_bad c.clear.ensures c.fill.ensures c.in-Refused.is c.clear-in-Refused.ensures
+pub returns-else-is_err-clause-leaves : goal.returns-else-is_err-clause-leaves
+returns-else-is_err-clause-leaves c =
+    leaves_filled c.clear.ensures _ (sym c.is_err.ensures.value ∙ c.if-is_err.false) c.fill-read.ensures

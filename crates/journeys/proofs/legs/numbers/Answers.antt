@@ -1,10 +1,15 @@
--- `journeys::legs::numbers` meets its contract, for a leg with a walk after it and for one without.
+-- `journeys::legs::numbers` meets its contract.
+use mathlib.Core.Path.{◌≡◌, refl}
+use Rattle.std.specs.Prelude.{Option, Some, None, ℕ}
+use Rattle.std.specs.Option.{unwrap_or}
 use Rattle.laws.specs.Below.{mark}
+use Rattle.paper.specs.Tie.{walked_to}
 use Rattle.journeys.proofs.legs.numbers.Goals as goal
 
-pub returns-in-Stays : goal.returns-in-Stays
+walked : (after : Option ℕ) → unwrap_or after 4294967295 ≡ walked_to after
 unfolding mark
-returns-in-Stays c = simp c.in-Stays.is
+walked None = refl
+walked (Some s) = refl
 
-pub returns-in-WalksTo : goal.returns-in-WalksTo
-returns-in-WalksTo c = simp c.in-WalksTo.is
+pub returns : goal.returns
+returns c = rw (c.unwrap_or-to.ensures, walked)

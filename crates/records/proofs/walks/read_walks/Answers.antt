@@ -1,20 +1,14 @@
-use borrow.Author.Rules.{rules}
-use Rattle.records.proofs.Walk.{walking_start, walking_room, walking_step, walking_end}
+use Rattle.std.proofs.lemmas.Result.{err_from_is_err_and}
+use Rattle.records.proofs.Walk.{walking_start, walking_step, walking_bad}
 use Rattle.records.proofs.walks.read_walks.Goals as goal
 
-pub loop-j-init : goal.loop-j-init
-loop-j-init c = walking_start c.args.k c.requires
+pub loop-init : goal.loop-init
+loop-init c = walking_start c.args.k c.requires
 
-pub read_walk-q-requires : goal.read_walk-q-requires
-read_walk-q-requires c =
-    walking_room c.args.k c.requires c.loop-j.invariant (search rules)
+pub returns-in_err-q : goal.returns-in_err-q
+returns-in_err-q c =
+    let p = err_from_is_err_and c.from_residual.result c.from_residual.ensures.1 in
+    rw (p.1, p.2) (walking_bad c.args.k c.requires c.loop.invariant c.loop-test.true c.in_err-q.ensures)
 
-pub loop-j-preserved : goal.loop-j-preserved
-loop-j-preserved c =
-    walking_step c.args.k c.requires c.loop-j.invariant (search rules) c.read_walk-q.ensures
-
-pub shape_of-d : goal.shape_of-d
-shape_of-d c = c.loop-j.invariant.on.held.walks.kept
-
-pub returns : goal.returns
-returns c = walking_end c.args.k c.requires c.loop-j.invariant (search rules)
+pub loop-preserved : goal.loop-preserved
+loop-preserved c = walking_step c.args.k c.requires c.loop.invariant c.loop-test.true c.in_ok-q.ensures

@@ -1,10 +1,11 @@
--- `records::walks::read_walks` meets its contract: the loop keeps `Walking`.
-use Prim.Native.Nat.{◌-◌}
-use Rattle.records.proofs.Walk.{Walking}
+-- `records::walks::read_walks` meets its contract: so many walks are well.
+use Rattle.std.proofs.Common.{◌*◌, Ok}
+use Rattle.laws.specs.Below.{iterate}
+use Rattle.paper.specs.Reading.{next_walk}
+use Rattle.records.specs.State.{walks_of, WalksOn}
 use Rattle.records.proofs.walks.read_walks.Given as goal
 
-abbrev pub invariant-loop-j : goal.invariant-loop-j
-invariant-loop-j l = Walking l.f l.e l.k l.initial.q l.initial.d l.j l.q l.d
-
-abbrev pub decreases-loop-j : goal.decreases-loop-j
-decreases-loop-j l = l.k - l.j
+abbrev pub invariant-loop : goal.invariant-loop
+invariant-loop l =
+    let s = l.initial in
+    WalksOn l.e (3 * l.counter) s.q (iterate l.counter (next_walk l.f l.e) (walks_of s.q s.d)) (Ok l.q) s.d l.d

@@ -1,10 +1,11 @@
--- `route_records::trips::read_trips` meets its contract: the loop keeps `Riding`.
-use Prim.Native.Nat.{◌-◌}
-use Rattle.route_records.proofs.Trip.{Riding}
+-- `route_records::trips::read_trips` meets its contract: so many trips are well.
+use Rattle.std.proofs.Common.{◌*◌, Ok}
+use Rattle.laws.specs.Below.{iterate}
+use Rattle.paper.specs.Reading.{trip_at}
+use Rattle.route_records.specs.State.{trips_of, TripsOn}
 use Rattle.route_records.proofs.trips.read_trips.Given as goal
 
-abbrev pub invariant-loop-j : goal.invariant-loop-j
-invariant-loop-j l = Riding l.f l.e l.n l.m l.initial.q l.initial.arrivals l.initial.departures l.j l.q l.arrivals l.departures
-
-abbrev pub decreases-loop-j : goal.decreases-loop-j
-decreases-loop-j l = l.m - l.j
+abbrev pub invariant-loop : goal.invariant-loop
+invariant-loop l =
+    let s = l.initial in
+    TripsOn l.e (l.n * l.counter) s.q (iterate l.counter (trip_at l.f l.e l.n) (trips_of s.q s.room)) (Ok l.q) s.room l.room

@@ -1,10 +1,7 @@
--- `scan::walks::walk` meets its contract. The loop's invariant is `Walking`, the measure is the walks left.
-use Prim.Native.Nat.{◌-◌}
+-- `scan::walks::walk` meets its contract. The loop's invariant is `Walking`.
+use Rattle.paper.specs.Timetable.{lent}
 use Rattle.scan.proofs.Walking.{Walking}
 use Rattle.scan.proofs.walks.walk.Given as goal
 
 abbrev pub invariant-loop-w : goal.invariant-loop-w
-invariant-loop-w l = Walking l.walks l.count l.reach l.initial.next l.next l.looked l.w
-
-abbrev pub decreases-loop-w : goal.decreases-loop-w
-decreases-loop-w l = l.count - l.w
+invariant-loop-w l = Walking (lent l.tables) l.reach l.initial.next l.next l.looked l.w

@@ -1,5 +1,6 @@
--- `scan::walks::walk_on` meets its contract: what `later` and `lower` give.
+use Rattle.laws.specs.Below.{mark}
 use Rattle.scan.proofs.walks.walk_on.Goals as goal
 
 pub returns : goal.returns
-returns c = rw (← c.later.ensures) c.lower.ensures
+unfolding mark
+returns c = rw c.saturating_add.ensures at c.lower.ensures

@@ -1,47 +1,25 @@
 use borrow.Author.Rules.{rules}
-use mathlib.Core.Path.{◌∙◌}
-use native.Mathlib.Omega.{arith}
-use Rattle.sending.proofs.Sent.{puts_length, sending_length, sending_room, sending_step}
+use Rattle.paper.specs.Timetable.{lent}
+use Rattle.sending.proofs.Sent.{sent, sending_room, sending_step}
 use Rattle.sending.proofs.Put.{trip_mark, events_start, trip_end}
 use Rattle.sending.proofs.records.put_trip.Goals as goal
 
-pub put_mark-q-requires : goal.put_mark-q-requires
-put_mark-q-requires c = trip_mark c.requires
+pub put_word-requires : goal.put_word-requires
+put_word-requires c = trip_mark c.requires
 
 pub loop-i-init : goal.loop-i-init
-loop-i-init c = events_start c.requires c.put_mark-q.ensures
+loop-i-init c = events_start c.requires (sent c.put_word.ensures)
 
-pub overflow_add-v : goal.overflow_add-v
-overflow_add-v c = omega (arith, c.requires.arrivals.there, c.well_formed)
-
-pub offset_bounds-arrivals-v : goal.offset_bounds-arrivals-v
-offset_bounds-arrivals-v c = omega (arith, c.requires.arrivals.there, c.well_formed)
-
-pub bounds-arrivals-v : goal.bounds-arrivals-v
-bounds-arrivals-v c = omega (arith, c.requires.arrivals.there)
-
-pub overflow_add-v-in-loop-i : goal.overflow_add-v-in-loop-i
-overflow_add-v-in-loop-i c = omega (arith, c.requires.departures.there, c.well_formed)
-
-pub offset_bounds-departures-v : goal.offset_bounds-departures-v
-offset_bounds-departures-v c = omega (arith, c.requires.departures.there, c.well_formed)
-
-pub bounds-departures-v : goal.bounds-departures-v
-bounds-departures-v c = omega (arith, c.requires.departures.there)
-
-pub put_event-q-requires : goal.put_event-q-requires
-put_event-q-requires c =
-    let p = c.requires in
-    let a = p.arrivals.each c.loop-i.i (search rules) in
-    let d = p.departures.each c.loop-i.i (search rules) in
-    record { arrival< = omega (arith, a, d); departure< = omega (arith, a, d); room = sending_room c.loop-i.invariant (search rules) }
+pub put_event-requires : goal.put_event-requires
+put_event-requires c =
+    record {
+      arrival< = c.requires.arrivals.each c.loop-i.i (search rules);
+      departure< = c.requires.departures.each c.loop-i.i (search rules);
+      room = sending_room c.loop-i.invariant (search rules);
+    }
 
 pub loop-i-preserved : goal.loop-i-preserved
-loop-i-preserved c =
-    sending_step c.loop-i.invariant (search rules) c.put_event-q.ensures
-
-pub shape_of-out : goal.shape_of-out
-shape_of-out c = sending_length c.loop-i.invariant ∙ puts_length c.put_mark-q.ensures
+loop-i-preserved c = sending_step c.loop-i.invariant (search rules) c.put_event.ensures
 
 pub returns : goal.returns
-returns c = trip_end c.requires c.put_mark-q.ensures c.loop-i.invariant (search rules)
+returns c = trip_end (lent c.args.tables) c.args.n c.args.v (sent c.put_word.ensures) c.loop-i.invariant (search rules)

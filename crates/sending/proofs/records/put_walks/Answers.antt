@@ -1,22 +1,19 @@
 use borrow.Author.Rules.{rules}
+use Rattle.paper.specs.Timetable.{lent}
 use Rattle.paper.specs.Feed.{walk_bytes, walks_bytes}
-use Rattle.sending.specs.Puts.{of_walks}
-use Rattle.sending.proofs.Sent.{sending_start, sending_length, sending_room, sending_step, sending_end}
+use Rattle.sending.proofs.Sent.{sending_start, sending_room, sending_step, sending_end}
 use Rattle.sending.proofs.records.put_walks.Goals as goal
 
 pub loop-w-init : goal.loop-w-init
 unfolding walks_bytes
-loop-w-init c = sending_start (walk_bytes (of_walks c.args.walks.now)) c.args.k c.requires.room
+loop-w-init c = sending_start (walk_bytes (lent c.args.tables)) c.args.tables.heads.walks c.requires.room
 
-pub put_walk-q-requires : goal.put_walk-q-requires
-put_walk-q-requires c =
+pub put_walk-requires : goal.put_walk-requires
+put_walk-requires c =
     record { fits = c.requires.fits c.loop-w.w (search rules); room = sending_room c.loop-w.invariant (search rules) }
 
 pub loop-w-preserved : goal.loop-w-preserved
-loop-w-preserved c = sending_step c.loop-w.invariant (search rules) c.put_walk-q.ensures
-
-pub shape_of-out : goal.shape_of-out
-shape_of-out c = sending_length c.loop-w.invariant
+loop-w-preserved c = sending_step c.loop-w.invariant (search rules) c.put_walk.ensures
 
 pub returns : goal.returns
 unfolding walks_bytes

@@ -1,20 +1,15 @@
 -- `timetable::counts::limit_of`: nothing wraps, since the totals are small.
 use mathlib.Core.Path.{refl}
 use native.Mathlib.Omega.{arith}
-use Rattle.paper.specs.Timetable.{positions_to, trips_to}
+use Rattle.paper.specs.Timetable.{lent, positions_to, trips_to}
 use Rattle.paper.specs.Work.{limit_of}
 use Rattle.timetable.proofs.CountTests.{TotalsFit, totals_fit}
 use Rattle.timetable.proofs.counts.limit_of.Goals as goal
 use Rattle.timetable.proofs.counts.limit_of.Goals.{After-totals_of-all}
 
 -- the totals are small
-fit :
-    (c : After-totals_of-all)
-    → TotalsFit c.args.heads.routes c.args.routes.now c.totals_of-all.result.positions c.totals_of-all.result.trips
-fit c = totals_fit _ _ c.requires.laid c.totals_of-all.ensures
-
-pub totals_of-all-requires : goal.totals_of-all-requires
-totals_of-all-requires c = c.requires.laid
+fit : (c : After-totals_of-all) → let x = c.totals_of-all.result in TotalsFit (lent c.args.tables) x.positions x.trips
+fit c = totals_fit (lent c.args.tables) c.requires.laid c.totals_of-all.ensures
 
 pub overflow_sub-result : goal.overflow_sub-result
 overflow_sub-result c = (fit (goal.at.overflow_sub-result c).After-totals_of-all).positions≥

@@ -1,6 +1,6 @@
 use Rattle.std.proofs.Common.{ap, not}
 use native.Mathlib.Omega.{arith}
-use borrow.Author.Count.{falls}
+use Rattle.paper.specs.Timetable.{lent}
 use Rattle.paper.proofs.Places.{Counted}
 use Rattle.timetable.proofs.CountTests.{summed_start, summed_next, summed_found, summed_end, route_counts}
 use Rattle.timetable.proofs.counts.lowest_route.Goals as goal
@@ -11,52 +11,35 @@ counts :
     (c : Else-not-counted-route)
     → let x = c.extent_of-route.result in let l = c.loop-r in Counted x.n x.m l.trips l.events
 counts c =
-    route_counts _ _ _ _ _ _ c.loop-r.invariant c.extent_of-route.ensures c.counted.ensures (ap not c.if-not-counted-route.false)
+    route_counts (lent c.args.tables) _ _ _ _ c.loop-r.invariant c.extent_of-route.ensures
+    c.counted.ensures (ap not c.if-not-counted-route.false)
 
 pub loop-r-init : goal.loop-r-init
-loop-r-init c = summed_start _ _
-
-pub extent_of-route-requires : goal.extent_of-route-requires
-extent_of-route-requires c = omega (arith, c.loop-r-test.true, c.requires.routes≤, c.requires.long)
-
-pub counted-requires : goal.counted-requires
-counted-requires c = c.loop-r.invariant.before
-
-pub overflow_cast-positions : goal.overflow_cast-positions
-overflow_cast-positions c = omega (arith, c.loop-r.invariant.positions≤, c.loop-r-test.true, c.requires.routes≤)
-
-pub overflow_cast-events : goal.overflow_cast-events
-overflow_cast-events c = omega (arith, c.loop-r.invariant.before.events≤)
+loop-r-init c = summed_start _
 
 pub returns-then-not-counted-route : goal.returns-then-not-counted-route
 returns-then-not-counted-route c =
-    summed_found _ _ _ _ _ _ c.loop-r.invariant c.extent_of-route.ensures c.loop-r-test.true c.counted.ensures (ap not c.if-not-counted-route.true)
+    summed_found (lent c.args.tables) _ _ _ _ c.loop-r.invariant c.extent_of-route.ensures c.loop-r-test.true
+    c.counted.ensures (ap not c.if-not-counted-route.true)
 
 pub overflow_add-positions : goal.overflow_add-positions
 overflow_add-positions c =
-    omega (arith, (counts (goal.at.overflow_add-positions c).Else-not-counted-route).n≤, c.loop-r.invariant.positions≤, c.loop-r-test.true, c.requires.routes≤)
+    let k = counts (goal.at.overflow_add-positions c).Else-not-counted-route in
+    omega (arith, k.n≤, c.loop-r.invariant.positions≤)
 
 pub overflow_add-trips : goal.overflow_add-trips
-overflow_add-trips c =
-    omega (arith, (counts (goal.at.overflow_add-trips c).Else-not-counted-route).trips≤)
+overflow_add-trips c = omega (arith, (counts (goal.at.overflow_add-trips c).Else-not-counted-route).trips≤)
 
 pub overflow_mul-events : goal.overflow_mul-events
-overflow_mul-events c =
-    omega (arith, (counts (goal.at.overflow_mul-events c).Else-not-counted-route).events≤)
+overflow_mul-events c = omega (arith, (counts (goal.at.overflow_mul-events c).Else-not-counted-route).events≤)
 
 pub overflow_add-events : goal.overflow_add-events
-overflow_add-events c =
-    omega (arith, (counts (goal.at.overflow_add-events c).Else-not-counted-route).events≤)
-
-pub overflow_step-r : goal.overflow_step-r
-overflow_step-r c = omega (arith, c.loop-r-test.true, c.requires.routes≤)
-
-pub loop-r-smaller : goal.loop-r-smaller
-loop-r-smaller c = falls _ _ c.loop-r-test.true
+overflow_add-events c = omega (arith, (counts (goal.at.overflow_add-events c).Else-not-counted-route).events≤)
 
 pub loop-r-preserved : goal.loop-r-preserved
 loop-r-preserved c =
-    summed_next _ _ _ _ _ _ c.loop-r.invariant c.extent_of-route.ensures c.loop-r-test.true c.counted.ensures (ap not c.if-not-counted-route.false)
+    summed_next (lent c.args.tables) _ _ _ _ c.loop-r.invariant c.extent_of-route.ensures c.loop-r-test.true
+    c.counted.ensures (ap not c.if-not-counted-route.false)
 
 pub returns : goal.returns
-returns c = summed_end _ _ _ _ _ _ c.loop-r.invariant c.loop-r-test.false
+returns c = summed_end (lent c.args.tables) _ _ _ _ c.loop-r.invariant c.loop-r-test.false

@@ -1,9 +1,0 @@
--- `feeds_main::passing::lay` meets its contract: the table keeps its length.
-use Rattle.std.proofs.Common.{◌≡◌, ◌-◌, length}
-use Rattle.feeds_main.proofs.passing.lay.Given as goal
-
-abbrev pub invariant-loop-i : goal.invariant-loop-i
-invariant-loop-i l = length l.tables ≡ length l.initial.tables
-
-abbrev pub decreases-loop-i : goal.decreases-loop-i
-decreases-loop-i l = l.size - l.i

@@ -1,5 +1,0 @@
--- `lettering::put_decimal` meets its contract. The number falls with each call.
-use Rattle.lettering.proofs.+put_decimal.Given as goal
-
-abbrev pub decreases-put_decimal : goal.decreases-put_decimal
-decreases-put_decimal l = l.x

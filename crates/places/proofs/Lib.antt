@@ -1,2 +1,0 @@
--- What the rules' proofs cite.
-pub mod Lowest

@@ -1,2 +1,0 @@
--- What the rules' contracts cite.
-pub mod Place

@@ -1,9 +1,0 @@
--- `trials::same::same_table` is safe and ends.
-use Prim.Native.Nat.{◌≤◌, ◌-◌}
-use Rattle.trials.proofs.same.same_table.Given as goal
-
-abbrev pub invariant-loop-i : goal.invariant-loop-i
-invariant-loop-i l = l.i ≤ l.count
-
-abbrev pub decreases-loop-i : goal.decreases-loop-i
-decreases-loop-i l = l.count - l.i
