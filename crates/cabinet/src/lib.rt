@@ -1,4 +1,5 @@
-// The cabinet's face for C and Rust: checking, reading, writing and asking on numbers and slices alone, each answer packed into one number.
+// The cabinet's face for C and Rust: checking, reading, writing and asking on numbers and slices alone, as C's interface wants them, each
+// answer packed into one number.
 #![tactic(auto)]
 
 ghost use Rattle.std.specs.Prelude.{◌≡◌};

@@ -1,4 +1,4 @@
-// The cabinet's four functions for C: each calls that of `cabinet` and promises the same.
+// The cabinet's four functions for C: each calls that of `cabinet` and promises the same, since an archive exports its own functions alone.
 #![tactic(auto)]
 
 ghost use Rattle.std.specs.Prelude.{◌≡◌};

@@ -1,13 +1,13 @@
 // One question of lent tables: the answer in the printer's lines, the target's labels, and how much of labels
 // and legs is as their last element.
-use crate::showing::{KEPT, Refused, Rest, Shown};
+use crate::showing::{KEPT, Rest, Shown};
 use paper::{Answer, Heads, Lent, Question};
 use std::io;
 
 // A refusal by itself, since a legs table that is too short cannot be printed from.
 fn print_answer(rt: &impl Print, answer: Answer, legs: &[u32]) -> io::Result<()> {
     if let Err(refusal) = answer.verdict {
-        return println!(rt; "{}", Refused(refusal));
+        return println!(rt; "refused {refusal}");
     }
     let mut out = [0; 4311];
     match answer_lines::render(answer, legs, &mut out) {

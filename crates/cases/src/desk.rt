@@ -49,7 +49,7 @@ fn place_of(word: u8) -> Option<usize> {
     }
 }
 
-// Where table 1 to 5 begins; 0 is both tables of times, and any other is no table.
+// Where table 1 to 5 begins, by the input's own numbers; 0 is both tables of times, and any other begins one before table 1.
 fn base_of(table: u32) -> usize {
     match table {
         1 => ROUTES,

@@ -1,6 +1,6 @@
 // 01's feeds, read and written.
 use crate::asking::asks;
-use crate::showing::{KEPT, Refused, Rest};
+use crate::showing::{KEPT, Rest};
 use paper::{Lent, Question, Room};
 use std::io;
 
@@ -8,7 +8,7 @@ use std::io;
 pub fn writes(rt: &impl Print, tables: Lent, out: &mut [u8]) -> io::Result<()> {
     match feed::write(tables, out) {
         Ok(bytes) => print!(rt; "write done {bytes}")?,
-        Err(refusal) => print!(rt; "write {}", Refused(refusal))?,
+        Err(refusal) => print!(rt; "write refused {refusal}")?,
     }
     let kept = out.iter().filter(|byte| **byte == 170).count();
     println!(rt; "; {kept} kept")
@@ -31,7 +31,7 @@ fn reads(rt: &impl Print, bytes: &[u8]) -> io::Result<()> {
     let reading = feed::read(bytes, &mut room);
     match reading {
         Ok(heads) => print!(rt; "done {} {} {}", heads.stops, heads.routes, heads.walks)?,
-        Err(refusal) => print!(rt; "{}", Refused(refusal))?,
+        Err(refusal) => print!(rt; "refused {refusal}")?,
     }
     print!(rt; "; {}; {}", Rest(&routes), Rest(&positions))?;
     println!(rt;

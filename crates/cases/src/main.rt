@@ -9,18 +9,17 @@ mod feeds;
 mod showing;
 
 use crate::desk::Desk;
+use filling::fill_from;
 use std::io;
-use std::io::Read;
 
 // The longest list that is read.
-const LIST: u64 = 16384;
+const LIST: usize = 16384;
 
 fn main(rt: HostRuntime) -> io::Result<()> {
-    let mut list = Vec::new(rt.alloc());
-    // a list that cannot be read ends there
-    let _ = rt.reader().take(LIST).read_to_end(&mut list);
+    let mut list = [0; LIST];
+    let n = fill_from(&mut rt.reader(), &mut list);
     let mut desk = Desk::new();
-    for line in list.split_inclusive(|byte| *byte == b'\n') {
+    for line in list[..n].split_inclusive(|byte| *byte == b'\n') {
         // zero bytes before a line are none of it
         let start = line.iter().position(|byte| *byte != 0);
         desk.follow(&rt, &line[start.unwrap_or(0)..])?;

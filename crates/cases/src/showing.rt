@@ -1,5 +1,5 @@
 // What tables hold, as it is shown.
-use paper::{MARK, Refusal};
+use paper::MARK;
 use std::fmt;
 
 // What stands in a table before it is lent.
@@ -12,10 +12,6 @@ pub struct Shown(pub u32);
 // How many elements are what the last one is.
 #[derive(Clone, Copy)]
 pub struct Rest<'a>(pub &'a [u32]);
-
-// A refusal's number and place.
-#[derive(Clone, Copy)]
-pub struct Refused(pub Refusal);
 
 impl fmt::Display for Shown {
     fn fmt<W: fmt::Write>(&self, f: &mut fmt::Formatter<W>) -> fmt::Result {
@@ -34,11 +30,5 @@ impl fmt::Display for Rest<'_> {
         };
         let count = self.0.iter().filter(|element| *element == last).count();
         write!(f, "{count} of {}", Shown(*last))
-    }
-}
-
-impl fmt::Display for Refused {
-    fn fmt<W: fmt::Write>(&self, f: &mut fmt::Formatter<W>) -> fmt::Result {
-        write!(f, "refused {} {}", self.0.number, self.0.place)
     }
 }

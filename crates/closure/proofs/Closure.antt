@@ -146,7 +146,7 @@ first T begins seconds v h =
 pub record Looking (T : Tables) (v from : ℕ) (xs : List ℕ) : Type 0 where
   pub upto : v ≤ T.walks
   pub passed : Passed (opens T) v
-  pub near : from < 256 → SecondsFrom T from xs
+  pub near : SecondsFrom T from xs
 
 -- the array is that of the stop that is looked at
 pub record Turned (T : Tables) (a from : ℕ) (xs : List ℕ) : Type 0 where
@@ -157,17 +157,13 @@ module _ (T : Tables) where
   pub turned_new : (a : ℕ) {from : ℕ} {xs ys : List ℕ} → from ≡ a → xs ≡ ys → SecondsFrom T a ys → Turned T a from xs
   turned_new a e q n = record { is = e; near = rw q n }
 
-  pub turned_old : (v : ℕ) {last from : ℕ} {xs ys : List ℕ} → Walked T → v < T.walks → Looking T v last ys → walk_from T v ≡ last → from ≡ last → xs ≡ ys → Turned T (walk_from T v) from xs
-  turned_old v {last} h l n z e q =
-      record {
-        is = e ∙ sym z;
-        near = rw (q, z) (n.near (rw (← z) (omega (arith, (h.walk v l).from<, h.stops≤))));
-      }
+  pub turned_old : (v : ℕ) {last from : ℕ} {xs ys : List ℕ} → Looking T v last ys → walk_from T v ≡ last → from ≡ last → xs ≡ ys → Turned T (walk_from T v) from xs
+  turned_old v n z e q = record { is = e ∙ sym z; near = rw (q, z) n.near }
 
   pub looking_next : (v : ℕ) {last from : ℕ} {xs ys : List ℕ} → v < T.walks → Looking T v last ys → Turned T (walk_from T v) from xs → opens T v ≡ false → Looking T (v + 1) from xs
   looking_next v l n t f =
       record {
         upto = omega arith;
         passed = passed_more (opens T) v n.passed f;
-        near = λ _. rw t.is t.near;
+        near = rw t.is t.near;
       }

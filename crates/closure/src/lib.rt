@@ -33,7 +33,8 @@ fn begins_of(tables: Lent) -> [u32; 257]
     begins
 }
 
-// The seconds to walk from a to each stop: 0 to itself, and the mark where there is no walk.
+// The seconds to walk from a to each stop: 0 to itself, and the mark where there is no walk, since an Option would
+// take twice the stack.
 fn seconds_from(tables: Lent, begins: &[u32], a: u32) -> [u32; 256]
     requires { FromStop (lent tables) begins.now a }
     ensures { SecondsFrom (lent tables.entry) a result }
@@ -83,8 +84,8 @@ pub fn lowest_open(tables: Lent) -> Option<u32>
         return None;
     }
     let begins = begins_of(tables);
-    let mut from: u32 = 256;
-    let mut seconds: [u32; 256] = [0; 256];
+    let mut from = walks[0];
+    let mut seconds = seconds_from(tables, &begins, from);
     for v in 0..count {
         let a = walks[(v as usize) * 3];
         if a != from {

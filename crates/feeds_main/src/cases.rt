@@ -1,27 +1,21 @@
 // The cases that standard input lists, a line each. Their feeds are the bridge network's with some bytes set,
 // and zeros behind it.
-ghost use Rattle.std.specs.Prelude.{◌≤◌, length};
-
 use crate::bytes::{BRIDGE, differing};
 use crate::lines::{Case, set_bytes};
 use crate::passing::{Passed, pass};
-use paper::Refusal;
+use filling::fill_from;
 use std::io;
-use std::io::{Read, Write};
+use std::io::Write;
 
 // One byte more than the longest feed has.
 const MOST: usize = 17870;
-
-fn print_refusal(rt: &impl Print, refusal: Refusal) -> io::Result<()> {
-    println!(rt; " {} {}", refusal.number, refusal.place)
-}
 
 // What reading answers, and where the feed is accepted what writing answers. Of what was written the size is
 // printed, and how many of its bytes differ from the feed's.
 fn print_passed(rt: &impl Print, feed: &[u8], out: &[u8], passed: &Passed) -> io::Result<()> {
     let heads = match passed.reading {
         Ok(heads) => heads,
-        Err(refusal) => return print_refusal(rt, refusal),
+        Err(refusal) => return println!(rt; " {refusal}"),
     };
     print!(rt;
         " done {} {} {}, written",
@@ -29,7 +23,7 @@ fn print_passed(rt: &impl Print, feed: &[u8], out: &[u8], passed: &Passed) -> io
     )?;
     match passed.writing {
         Ok(size) => println!(rt; " done {size}, differing {}", differing(feed, out)),
-        Err(refusal) => print_refusal(rt, refusal),
+        Err(refusal) => println!(rt; " {refusal}"),
     }
 }
 
@@ -61,25 +55,9 @@ fn run_line(rt: &impl Print, line: &[u8]) -> io::Result<()> {
     }
 }
 
-// How many bytes were read, until the text is full or the input ends. It ends where a read fails. No method of std
-// fills a buffer as far as the input goes and says how far that is.
-fn read_full(reader: &mut impl Read, text: &mut [u8]) -> usize
-    ensures { result ≤ length text.new }
-{
-    let mut n = 0;
-    while n < text.len() {
-        let got = reader.read(&mut text[n..]).unwrap_or(0);
-        if got == 0 {
-            break;
-        }
-        n += got;
-    }
-    n
-}
-
 pub fn cases(rt: &(impl Input + Print)) -> io::Result<()> {
     let mut text = [0; 8192];
-    let n = read_full(&mut rt.reader(), &mut text);
+    let n = fill_from(&mut rt.reader(), &mut text);
     for line in text[..n].split_inclusive(|byte| *byte == b'\n') {
         run_line(rt, line)?;
     }

@@ -1,7 +1,7 @@
 // A case on a line of standard input: what it is, a semicolon, and numbers with one byte between that is no
 // digit.
 use crate::bytes::{Right, low};
-use crate::tables::Table;
+use full_tables::Table;
 
 // How a feed is read and written: its length, what is made right, the table that is lent one short, and the
 // bytes that there are to write into.

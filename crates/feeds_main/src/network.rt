@@ -1,7 +1,7 @@
 // A network that is filled from the front: routes first, then their stops and times, then walks.
 use crate::dice::Seed;
-use crate::tables::Tables;
 use crate::times::Times;
+use full_tables::Tables;
 use paper::Heads;
 
 // A network so far, and how much of tables 2 to 4 is used. Numbers that are not used are 0.
@@ -45,7 +45,8 @@ impl Network {
         if m == 0 || m > 512u32.saturating_sub(self.trips) {
             return;
         }
-        if let Some(route) = self.tables.routes.get_mut(self.heads.routes as usize) {
+        let (routes, _) = self.tables.routes.as_chunks_mut();
+        if let Some(route) = routes.get_mut(self.heads.routes as usize) {
             *route = [n, m, self.positions, self.events];
             self.heads.routes += 1;
             self.positions = self.positions.saturating_add(n);
@@ -75,7 +76,8 @@ impl Network {
 
     // One walk more, if there is room.
     pub fn add_walk(&mut self, walk: [u32; 3]) {
-        if let Some(place) = self.tables.walks.get_mut(self.heads.walks as usize) {
+        let (walks, _) = self.tables.walks.as_chunks_mut();
+        if let Some(place) = walks.get_mut(self.heads.walks as usize) {
             *place = walk;
             self.heads.walks += 1;
         }

@@ -1,6 +1,7 @@
 // A feed read into tables, and what was read written.
 use crate::digest::Digest;
-use crate::tables::{Table, Tables};
+use crate::tables::{all, room};
+use full_tables::{Table, Tables};
 use paper::{Heads, Refusal};
 
 // The answers of reading and of writing what was read, and the tables between them.
@@ -14,7 +15,7 @@ pub struct Passed {
 // The tables hold 7 before, so that untouched ones differ from zero ones.
 pub fn pass(feed: &[u8], short: Option<Table>, out: &mut [u8]) -> Passed {
     let mut tables = Tables::new(7);
-    let reading = feed::read(feed, &mut tables.room(short));
+    let reading = feed::read(feed, &mut room(&mut tables, short));
     let writing = reading.and_then(|heads| feed::write(tables.lent(heads), out));
     Passed {
         reading,
@@ -30,8 +31,7 @@ impl Passed {
             Ok(heads) => digest.and_all(&[heads.stops, heads.routes, heads.walks]),
             Err(refusal) => digest.and_all(&[refusal.number, refusal.place]),
         };
-        self.tables
-            .all()
+        all(&self.tables)
             .iter()
             .fold(answered, |digest, table| digest.and_all(table))
     }

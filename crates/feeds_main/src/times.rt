@@ -57,7 +57,8 @@ fn put_events(net: &mut Network, route: [u32; 4], mut seed: Seed) -> Seed {
 
 // The events of all routes, the last route first.
 pub fn put_times(net: &mut Network, mut seed: Seed) -> Seed {
-    let routes = net.tables.routes;
+    let tables = net.tables;
+    let (routes, _) = tables.routes.as_chunks();
     for route in routes.iter().take(net.heads.routes as usize).rev() {
         seed = put_events(net, *route, seed);
     }

@@ -4,7 +4,8 @@ use crate::digest::Digest;
 use crate::network::Network;
 use crate::networks::{longest, network};
 use crate::passing::pass;
-use crate::tables::Tables;
+use crate::tables::{all, room};
+use full_tables::Tables;
 use std::{fmt, io};
 
 // Over all networks so far: routes, walks, bytes, a digest of the bytes, and what differs.
@@ -35,7 +36,7 @@ impl fmt::Display for Totals {
 
 // How many numbers of tables 1 to 5 differ.
 fn differing_numbers(a: &Tables, b: &Tables) -> usize {
-    a.all().iter().zip(b.all()).fold(
+    all(a).iter().zip(all(b)).fold(
         0usize,
         |count, (a, b)| count.saturating_add(differing(a, b)),
     )
@@ -44,7 +45,7 @@ fn differing_numbers(a: &Tables, b: &Tables) -> usize {
 // What differs when the feed of a network is read into other tables, which hold 9.
 fn differing_back(net: &Network, feed: &[u8]) -> usize {
     let mut tables = Tables::new(9);
-    let reading = feed::read(feed, &mut tables.room(None));
+    let reading = feed::read(feed, &mut room(&mut tables, None));
     differing_numbers(&net.tables, &tables).saturating_add(usize::from(reading != Ok(net.heads)))
 }
 

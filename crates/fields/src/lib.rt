@@ -34,7 +34,7 @@ impl Fields<'_> {
         self.byte(off) * 256 + self.byte(off + 1)
     }
 
-    // Whether both bytes stand in the feed and are this mark, which is taken as one number: every reading then has the same shape, and one proof.
+    // Whether both bytes stand in the feed and are this mark, which is taken as one number.
     pub fn begins(self, mark: usize) -> bool
         ensures { result ≡ marked self.entry.feed.now (length self.entry.feed.now) self.entry.at 2 (mark / 256) (mark % 256) }
     {

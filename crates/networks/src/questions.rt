@@ -11,8 +11,8 @@ fn at(table: &[u32], i: u32) -> u32 {
 
 // A drawn route.
 fn drawn_line(net: &Network, seed: u32) -> Line<'_> {
-    let last = net.heads().routes.saturating_sub(1);
-    line_of(net.lent(), draw(seed, 0, last))
+    let last = net.heads.routes.saturating_sub(1);
+    line_of(net.tables.lent(net.heads), draw(seed, 0, last))
 }
 
 // A stop of a drawn route.
@@ -52,7 +52,7 @@ fn boarding(net: &Network, seed: u32) -> Question {
 
 // From any stop to any stop.
 fn anywhere(net: &Network, seed: u32) -> Question {
-    let last = net.heads().stops.saturating_sub(1);
+    let last = net.heads.stops.saturating_sub(1);
     let later = draw(seed, 0, spread(seed, 1));
     Question {
         start: draw(seed, 2, last),
@@ -69,13 +69,13 @@ pub fn question(net: &Network, seed: u32, i: u32) -> Question {
     match i {
         0 => Question {
             start: 0,
-            target: net.heads().stops.saturating_sub(1),
+            target: net.heads.stops.saturating_sub(1),
             time: net.begins,
             limit: net.limit,
             budget: MARK,
         },
         1 => anywhere(net, seed),
-        _ if net.heads().routes == 0 => anywhere(net, seed),
+        _ if net.heads.routes == 0 => anywhere(net, seed),
         _ => boarding(net, seed),
     }
 }

@@ -51,7 +51,7 @@ pub fn add_walks(net: &mut Network, seed: u32) {
         return;
     }
     let plan = draw_plan(seed);
-    let stops = net.heads().stops;
+    let stops = net.heads.stops;
     for from in 0..stops {
         for to in 0..stops {
             if plan.walks_between(from, to) {

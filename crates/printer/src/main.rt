@@ -7,6 +7,7 @@ ghost use Rattle.paper.specs.Lines.{printed};
 ghost use Rattle.dialogue.specs.Says.{Says};
 
 use dialogue::{answer, refuse};
+use filling::fill_from;
 use paper::{Lent, Room};
 use std::fs::File;
 use std::io::Read;
@@ -48,18 +49,10 @@ fn reply(feed: &[u8], input: &[u8], out: &mut [u8]) -> usize
 fn read_file(rt: &HostRuntime, feed: &mut [u8]) -> usize
     ensures { result ≤ length feed.new }
 {
-    let Ok(mut file) = File::open(rt, "timetable.bin") else {
-        return 0;
-    };
-    let mut n = 0;
-    while n < feed.len() {
-        let got = file.read(&mut feed[n..]).unwrap_or(0);
-        if got == 0 {
-            break;
-        }
-        n += got;
+    match File::open(rt, "timetable.bin") {
+        Ok(mut file) => fill_from(&mut file, feed),
+        Err(_) => 0,
     }
-    n
 }
 
 // What standard input holds up to its first newline, or as far as a line can go.

@@ -7,6 +7,7 @@ ghost use Rattle.paper.specs.Lines.{filled};
 ghost use Rattle.paper.specs.Timetable.{lent};
 ghost use Rattle.rounds_main.specs.Network.{Begun, Askable, Rowed};
 
+use full_tables::Tables;
 use paper::{Heads, Lent, MARK, Question};
 use std::io;
 
@@ -53,21 +54,15 @@ fn ask(rt: &impl Print, network: Lent, q: Question) -> io::Result<()>
     requires begun { Begun (lent network) }
     requires asked { Askable (filled (lent network)) q }
 {
-    let routes: [u32; 256] = table(network.routes);
-    let positions: [u32; 2048] = table(network.positions);
-    let arrivals: [u32; 2048] = table(network.arrivals);
-    let departures: [u32; 2048] = table(network.departures);
-    let walks: [u32; 1536] = table(network.walks);
-    let tables = Lent {
-        heads: network.heads,
-        routes: &routes,
-        positions: &positions,
-        arrivals: &arrivals,
-        departures: &departures,
-        walks: &walks,
+    let tables = Tables {
+        routes: table(network.routes),
+        positions: table(network.positions),
+        arrivals: table(network.arrivals),
+        departures: table(network.departures),
+        walks: table(network.walks),
     };
     let mut labels: [u32; 2304] = [0; 2304];
-    match rounds::run(tables, &mut labels, q) {
+    match rounds::run(tables.lent(network.heads), &mut labels, q) {
         Ok(work) => println!(rt; "work {work}")?,
         Err(refusal) => println!(rt; "passed in round {}", refusal.place)?,
     }

@@ -182,7 +182,7 @@ module _ {f : List ℕ} {room : Room} {e n m : ℕ} {s : RoutesRead} (pre : RowR
             simp (front2, front3)
             (record {
               routes = holds_push (n ∷ m ∷ s.positions ∷ s.events ∷ []) (omega (arith, pre)) (omega arith) ((λ i. (read.others.routes i).now) ∙ eh);
-              positions = holds_push (stops_at f (s.at + 5) n) (omega (arith, pre))
+              positions = holds_push (stops_at f (s.at + 5) n) (omega (arith, length_stops f (s.at + 5) n, pre, counts, few_positions counts))
                   (omega (arith, length_stops f (s.at + 5) n, pre, counts, few_positions counts)) ((λ i. (read.others.positions i).now) ∙ ep);
               arrivals = as_before (λ i. (ea i).now) (holds_most (omega (arith, counts)) read.arrivals);
               departures = as_before (λ i. (ed i).now) (holds_most (omega (arith, counts)) read.departures);

@@ -19,11 +19,12 @@ pub record CanPutRow (d : List ℕ) (k n m p v : ℕ) : Type 0 where
   pub p< : p < 65536
   pub v< : v < 65536
 
--- the table d₀ has become d: xs in front, from k to n elements, and the rest as it was
+-- the table d₀ has become d, as long as before: xs in front, from k to n elements, and the rest as it was
 pub record Holds (k n : ℕ) (xs d₀ d : List ℕ) : Type 0 where
   pub grown : k ≤ length xs
   pub most : length xs ≤ n
   pub is : d ≡ over xs d₀
+  pub kept : length d ≡ length d₀
 
 -- the tables stay where they were lent
 pub record Kept (old new : Room) : Type 0 where

@@ -125,7 +125,7 @@ pub record Limits (e : ℕ) (w : Routes) : Type 0 where
   pub trips : w.trips ≤ 512
   pub behind : w.bad ≡ 0 → length w.t2 ≤ length w.t3
 
--- tables 1 to 4 hold what w has read: more than s, and h elements of table 1 at the most. Table 5 is as it was
+-- tables 1 to 4 hold what w has read: no less than s, and h elements of table 1 at the most. Table 5 is as it was
 pub record RoutesHeld (h : ℕ) (s : RoutesRead) (w : Routes) (old new : Room) : Type 0 where
   pub routes : Holds s.heads h w.t1 old.routes.now new.routes.now
   pub positions : Holds s.positions 2048 w.t2 old.positions.now new.positions.now

@@ -26,7 +26,7 @@ pub struct RoutesRead {
     pub events: usize,
 }
 
-// Whether n and m are allowed, and the totals with them.
+// Whether n and m are allowed, and the totals with them. Here all are known to be small; `timetable` tests before it adds.
 fn counts_fit(n: usize, m: usize, trips: usize, events: usize) -> bool
     requires { CountsSmall n m trips events }
     ensures { result ≡ counted n m trips events }

@@ -8,7 +8,7 @@ ghost use Rattle.scan.specs.Look.{Boardable, Boarded, Landing, cut, Scannable, L
 use extents::{Extent, extent_of};
 use paper::{Lent, MARK};
 
-// The trip that is caught after a position, and the departures compared there.
+// The trip that is caught after a position, by 01 the number of trips if there is none; and the departures compared there.
 #[derive(Clone, Copy)]
 struct Caught {
     trip: usize,

@@ -58,10 +58,12 @@ NeverAt stops s = (k : ℕ) → k < length stops → get_or stops k 0 ≢ s
 
 pub record FirstAt (stops : List ℕ) (s i : ℕ) : Type 0 where
   pub inside : i < length stops
+  pub at : get_or stops i 0 ≡ s
   pub before : (k : ℕ) → k < i → get_or stops k 0 ≢ s
 
 pub record LastAt (stops : List ℕ) (s i : ℕ) : Type 0 where
   pub inside : i < length stops
+  pub at : get_or stops i 0 ≡ s
   pub after : (k : ℕ) → i < k → k < length stops → get_or stops k 0 ≢ s
 
 -- is its position i at stop s?

@@ -19,7 +19,7 @@ struct Way {
     after: Option<u32>,
 }
 
-// The seconds of the walk from each stop to p, 0 where there is none.
+// The seconds of the walk from each stop to p, 0 where there is none, since an Option would take twice the stack.
 fn seconds_to(tables: Lent, p: u32) -> [u32; 256]
     requires { WalksIn tables.walks.now tables.heads.walks }
     ensures { result ≡ seconds_to tables.entry.walks.now tables.entry.heads.walks p }

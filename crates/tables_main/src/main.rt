@@ -6,86 +6,90 @@ ghost use Rattle.std.specs.Prelude.{◌<◌};
 
 mod tables;
 
-use crate::tables::{Change, Table, Tables};
+use crate::tables::Network;
+use full_tables::Table;
 use paper::Lent;
 use std::io;
 
 fn print_check(rt: &impl Print, tables: Lent) -> io::Result<()> {
     match timetable::check(tables) {
         Ok(limit) => println!(rt; "done {limit}"),
-        Err(refusal) => println!(rt; "{} {}", refusal.number, refusal.place),
+        Err(refusal) => println!(rt; "{refusal}"),
     }
 }
 
 // One route of n positions and m trips that halts at stop 0 only, and one walk from 0 to 1.
-fn one_route(mut tables: Tables, n: u32, m: u32) -> Tables
+fn one_route(mut network: Network, n: u32, m: u32) -> Network
     requires { 0 < n }
 {
-    tables.set_route(0, [n, m, 0, 0]);
-    tables.set_times(0, n);
-    tables.set_walk(0, [0, 1, 10]);
-    tables
+    network.set_route(0, [n, m, 0, 0]);
+    network.set_times(0, n);
+    network.set_walk(0, [0, 1, 10]);
+    network
 }
 
 // A route of 64 positions and 31 trips, and one after it.
 fn two_routes(rt: &impl Print, n: u32, m: u32) -> io::Result<()>
     requires { 0 < n }
 {
-    let mut tables = Tables::new(1, 2, 0);
-    tables.set_route(0, [64, 31, 0, 0]);
-    tables.set_route(1, [n, m, 64, 1984]);
-    tables.set_times(0, 64);
-    tables.set_times(1984, n);
-    print_check(rt, tables.lent())
+    let mut network = Network::new(1, 2, 0);
+    network.set_route(0, [64, 31, 0, 0]);
+    network.set_route(1, [n, m, 64, 1984]);
+    network.set_times(0, 64);
+    network.set_times(1984, n);
+    print_check(rt, network.lent())
 }
 
 // So many of 64 routes of two positions and one trip.
 fn many_routes(rt: &impl Print, count: u32) -> io::Result<()> {
-    let mut tables = Tables::new(1, count, 0);
+    let mut network = Network::new(1, count, 0);
     for r in 0u32..64 {
-        tables.set_route(r as usize, [2, 1, r * 2, r * 2]);
+        network.set_route(r as usize, [2, 1, r * 2, r * 2]);
     }
-    tables.set_times(0, 2);
-    print_check(rt, tables.lent())
+    network.set_times(0, 2);
+    print_check(rt, network.lent())
 }
 
 // Walk 0 to 1 of 10 s, walk 0 to 2, and 1 to 2 of 10 s as walk `last`, of so many between three stops.
 fn three_walks(rt: &impl Print, seconds: u32, last: usize, count: u32) -> io::Result<()>
     requires { last < 512 }
 {
-    let mut tables = Tables::new(3, 0, count);
-    tables.set_walk(0, [0, 1, 10]);
-    tables.set_walk(1, [0, 2, seconds]);
-    tables.set_walk(last, [1, 2, 10]);
-    print_check(rt, tables.lent())
+    let mut network = Network::new(3, 0, count);
+    network.set_walk(0, [0, 1, 10]);
+    network.set_walk(1, [0, 2, seconds]);
+    network.set_walk(last, [1, 2, 10]);
+    print_check(rt, network.lent())
 }
 
-// A route of two positions and one trip, with one number changed.
-fn changed(rt: &impl Print, table: Table, at: usize, value: u32) -> io::Result<()> {
-    let mut tables = one_route(Tables::new(2, 1, 1), 2, 1);
-    tables.set(Change { table, at, value });
-    print_check(rt, tables.lent())
+// A route of two positions and one trip, with one number of some tables changed.
+fn changed(rt: &impl Print, tables: &[Table], at: usize, value: u32) -> io::Result<()> {
+    let mut network = one_route(Network::new(2, 1, 1), 2, 1);
+    for table in tables {
+        network.set(*table, at, value);
+    }
+    print_check(rt, network.lent())
 }
 
 // A route of n positions and m trips.
 fn counts(rt: &impl Print, n: u32, m: u32) -> io::Result<()>
     requires { 0 < n }
 {
-    print_check(rt, one_route(Tables::new(1, 1, 0), n, m).lent())
+    print_check(rt, one_route(Network::new(1, 1, 0), n, m).lent())
 }
 
 fn heads_alone(rt: &impl Print, stops: u32, routes: u32, walks: u32) -> io::Result<()> {
     print_check(
         rt,
-        one_route(Tables::new(stops, routes, walks), 2, 1).lent(),
+        one_route(Network::new(stops, routes, walks), 2, 1).lent(),
     )
 }
 
 fn times_and_seconds(rt: &impl Print) -> io::Result<()> {
-    changed(rt, Table::Times, 1, 172799)?;
-    changed(rt, Table::Times, 1, 172800)?;
-    changed(rt, Table::Walks, 2, 3600)?;
-    changed(rt, Table::Walks, 2, 3601)
+    let times = [Table::Arrivals, Table::Departures];
+    changed(rt, &times, 1, 172799)?;
+    changed(rt, &times, 1, 172800)?;
+    changed(rt, &[Table::Walks], 2, 3600)?;
+    changed(rt, &[Table::Walks], 2, 3601)
 }
 
 fn route_counts(rt: &impl Print) -> io::Result<()> {
@@ -114,8 +118,9 @@ fn head_counts(rt: &impl Print) -> io::Result<()> {
 
 // Tables with no route and no walk, and then each of them one number short.
 fn one_short(rt: &impl Print) -> io::Result<()> {
-    let full = Tables::new(1, 0, 0);
-    let tables = full.lent();
+    let network = Network::new(1, 0, 0);
+    let full = &network.tables;
+    let tables = network.lent();
     let routes = &full.routes[..255];
     let positions = &full.positions[..2047];
     let arrivals = &full.arrivals[..2047];
@@ -144,13 +149,13 @@ fn one_short(rt: &impl Print) -> io::Result<()> {
 // The largest number in each field of tables 1 to 5.
 fn largest(rt: &impl Print) -> io::Result<()> {
     for field in 0..4 {
-        changed(rt, Table::Routes, field, u32::MAX)?;
+        changed(rt, &[Table::Routes], field, u32::MAX)?;
     }
-    changed(rt, Table::Positions, 1, u32::MAX)?;
-    changed(rt, Table::Arrivals, 0, u32::MAX)?;
-    changed(rt, Table::Departures, 0, u32::MAX)?;
+    changed(rt, &[Table::Positions], 1, u32::MAX)?;
+    changed(rt, &[Table::Arrivals], 0, u32::MAX)?;
+    changed(rt, &[Table::Departures], 0, u32::MAX)?;
     for field in 0..3 {
-        changed(rt, Table::Walks, field, u32::MAX)?;
+        changed(rt, &[Table::Walks], field, u32::MAX)?;
     }
     Ok(())
 }

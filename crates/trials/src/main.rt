@@ -60,13 +60,14 @@ fn try_question(
     seed: u32,
     i: u32,
 ) -> io::Result<()> {
+    let tables = net.tables.lent(net.heads);
     let q = question(net, part(seed, 0), i);
-    let answer = compare(rt, tallies, net.lent(), steps, q)?;
+    let answer = compare(rt, tallies, tables, steps, q)?;
     let again = part(seed, 1);
     if draw(again, 0, 2) == 0 {
         let work = answer.verdict.unwrap_or_else(|refusal| refusal.place);
         let tight = with_budget(part(again, 1), q, work);
-        compare(rt, tallies, net.lent(), steps, tight)?;
+        compare(rt, tallies, tables, steps, tight)?;
     }
     Ok(())
 }
@@ -74,8 +75,9 @@ fn try_question(
 // Some questions of one network.
 fn try_network(rt: &impl Print, tallies: &mut Tallies, number: u32) -> io::Result<()> {
     let net = build(part(number, 0));
-    let steps = second::steps::list(net.lent());
-    tallies.survey(net.lent());
+    let tables = net.tables.lent(net.heads);
+    let steps = second::steps::list(tables);
+    tallies.survey(tables);
     let seed = part(number, 1);
     for i in 0..QUESTIONS {
         try_question(rt, tallies, &net, &steps, part(seed, i), i)?;

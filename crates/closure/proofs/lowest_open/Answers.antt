@@ -13,8 +13,8 @@ turned :
     → let T = lent c.args.tables in Turned T (walk_from T c.loop-v.v) c.if-a-from.from c.if-a-from.seconds
 turned c =
     elim c.if-a-from.branch [
-      | then-a-from w ↦ turned_new _ _ w.from-is w.seconds-is w.seconds_from-seconds.ensures
-      | else-a-from w ↦ turned_old _ _ c.requires c.loop-v-test.true c.loop-v.invariant w.if-a-from.false w.from-is w.seconds-is
+      | then-a-from w ↦ turned_new _ _ w.from-is w.seconds-is w.seconds_from-seconds-then-a-from.ensures
+      | else-a-from w ↦ turned_old _ _ c.loop-v.invariant w.if-a-from.false w.from-is w.seconds-is
     ]
 
 pub returns-then-count-eq0 : goal.returns-then-count-eq0

@@ -1,0 +1,2 @@
+-- The numbers of tables 1 to 5.
+pub mod Numbers
