@@ -78,6 +78,16 @@ module _ (k : ℕ) {f d₀ : List ℕ} {e : ℕ} {s : WalksRead} (pre : WalkRoom
     same : walks_of q d ≡ to j
     same = λ i. record { bad = sym h.end.bad i; at = h.end.at i; t5 = holds_take h.walks q.used h.end.walks i }
 
+    -- there is room for the next
+    pub walking_room : WalkRoom e 3 q f d
+    walking_room =
+        record {
+          within = omega (arith, h.within, h.end.at);
+          feed = pre.feed;
+          small = pre.small;
+          long5 = omega (arith, pre.long5, h.walks.most, h.walks.kept, h.end.walks);
+        }
+
     pub walking_step : {r : Result WalksRead Refusal} {d' : List ℕ} → WalksOn e 3 q (next_walk f e (walks_of q d)) r d d'
         → WalksOn e (3 * (j + 1)) s (to (j + 1)) r d₀ d'
     walking_step {r} {d'} g =

@@ -27,22 +27,7 @@ fn keep_walk(f: &[u8], at: usize, d: &mut [u32], k: usize)
     d[k..k + 3].copy_from_slice(&[walk.byte(0), walk.byte(1), walk.two(2)]);
 }
 
-// One walk.
-fn read_walk(f: &[u8], e: usize, s: WalksRead, d: &mut [u32]) -> Result<WalksRead, Refusal>
-    requires { WalkRoom e 3 s f.now d.old }
-    ensures { WalksOn e 3 s (next_walk f.now e (walks_of s d.old)) result d.old d.new }
-{
-    if !stands(f, e, s.at, 6, b'W', b'K') {
-        return Err(Reason::Form.at(s.at as u32));
-    }
-    keep_walk(f, s.at + 2, d, s.used);
-    Ok(WalksRead {
-        at: s.at + 6,
-        used: s.used + 3,
-    })
-}
-
-// k walks, from s on.
+// k walks, from s on. The test stands in the loop: a Result from walk to walk would cost more than the walk.
 pub fn read_walks(
     f: &[u8],
     e: usize,
@@ -55,7 +40,14 @@ pub fn read_walks(
 {
     let mut q = s;
     for _ in 0..k {
-        q = read_walk(f, e, q, d)?;
+        if !stands(f, e, q.at, 6, b'W', b'K') {
+            return Err(Reason::Form.at(q.at as u32));
+        }
+        keep_walk(f, q.at + 2, d, q.used);
+        q = WalksRead {
+            at: q.at + 6,
+            used: q.used + 3,
+        };
     }
     Ok(q)
 }

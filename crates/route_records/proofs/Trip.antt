@@ -136,6 +136,18 @@ module _ (m : ℕ) {f : List ℕ} {e n : ℕ} {s : TripsRead} {old : Room} (pre 
       t4 = holds_take h.departures q.events h.end.departures i;
     }
 
+    -- there is room for the next
+    pub riding_room : TripRoom e n n q f room
+    riding_room =
+        record {
+          within = omega (arith, h.within, h.end.at);
+          feed = pre.feed;
+          small = pre.small;
+          n≤ = pre.n≤;
+          long3 = omega (arith, came, more, most, pre.long3, h.arrivals.kept);
+          long4 = omega (arith, came, more, most, pre.long4, h.departures.kept);
+        }
+
     pub riding_step : {r : Result TripsRead Refusal} {new : Room} → TripsOn e n q (trip_at f e n (trips_of q room)) r room new
         → TripsOn e (n * (j + 1)) s (to (j + 1)) r old new
     riding_step {r} {new} g =

@@ -15,28 +15,7 @@ pub struct TripsRead {
     pub events: usize,
 }
 
-// One trip.
-fn read_trip(
-    f: &[u8],
-    e: usize,
-    n: usize,
-    s: TripsRead,
-    room: &mut Room,
-) -> Result<TripsRead, Refusal>
-    requires { TripRoom e n n s f.now room.old }
-    ensures { TripsOn e n s (trip_at f.now e n (trips_of s room.old)) result room.old room.new }
-{
-    if !stands(f, e, s.at, 2 + 6 * n, b'T', b'P') {
-        return Err(Reason::Form.at(s.at as u32));
-    }
-    keep_times(f, s.at + 2, n, room.arrivals, room.departures, s.events);
-    Ok(TripsRead {
-        at: s.at + (2 + 6 * n),
-        events: s.events + n,
-    })
-}
-
-// m trips, from s on.
+// m trips, from s on. The test stands in the loop: a Result from trip to trip would cost more than a short trip.
 pub fn read_trips(
     f: &[u8],
     e: usize,
@@ -50,7 +29,14 @@ pub fn read_trips(
 {
     let mut q = s;
     for _ in 0..m {
-        q = read_trip(f, e, n, q, room)?;
+        if !stands(f, e, q.at, 2 + 6 * n, b'T', b'P') {
+            return Err(Reason::Form.at(q.at as u32));
+        }
+        keep_times(f, q.at + 2, n, room.arrivals, room.departures, q.events);
+        q = TripsRead {
+            at: q.at + (2 + 6 * n),
+            events: q.events + n,
+        };
     }
     Ok(q)
 }
