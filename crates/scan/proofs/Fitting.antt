@@ -9,7 +9,6 @@ use Rattle.paper.proofs.RouteEnds.{positions_in, arrivals_in, departures_in}
 use Rattle.paper.proofs.Usable.{Usable, usable_of}
 use Rattle.extents.specs.Extent.{extent_of}
 use Rattle.scan.specs.Look.{route_at, Scannable, Standing, Rideable}
-use Rattle.scan.specs.Walk.{Walkable}
 
 module _ (T : Tables) (fit : Fit T) where
   sound : Sound T
@@ -41,16 +40,3 @@ module _ (T : Tables) (fit : Fit T) where
 
   pub rideable : (row : ℕ) → row ≡ T.stops → Rideable T row 256
   rideable row e = record { few = sound.routes≤; heads = omega (arith, sound.routes≤, fit.routes_room); standing = λ r l. rw e (standing r l) }
-
-  pub walkable : (reach : ℕ) → reach ≡ 256 → Walkable T reach 256
-  walkable reach e =
-      record {
-        few = sound.walks≤;
-        standing = λ w l. let s = sound.walk w l in
-            record {
-              inside = omega (arith, sound.walks≤, fit.walks_room);
-              from< = omega (arith, s.from<, sound.stops≤);
-              to< = omega (arith, s.to<, sound.stops≤);
-              seconds≤ = s.seconds≤;
-            };
-      }

@@ -14,7 +14,7 @@ use Rattle.paper.specs.Rows.{ride_on}
 use Rattle.paper.specs.Work.{look_cost}
 use Rattle.extents.specs.Extent.{extent_of}
 use Rattle.extents.specs.declared.Extent.{Extent}
-use Rattle.scan.specs.Look.{route_at, Scannable, Looked, Standing, ride_below, looks_below, Rideable, Ridden}
+use Rattle.scan.specs.Look.{route_at, Scannable, Looked, Standing, ride_below, looks_below, Rideable}
 use Rattle.paper.proofs.WorkLimit.{looks_le as looks-most}
 
 pub record Riding (T : Tables) (row reach₀ reach : List ℕ) (work r : ℕ) : Type 0 where
@@ -73,6 +73,3 @@ module _ (T : Tables) (row reach₀ : List ℕ) where
 
         pub riding_step : Riding T row reach₀ reach' (work + w) (r + 1)
         riding_step = record { below = omega arith; reach_is = reach_next; work_is = work_next }
-
-      pub riding_end : T.routes ≤ r → Ridden T row reach₀ reach work
-      riding_end h = let z : r ≡ T.routes = omega (arith, ri.below) in record { reach_is = rw z at ri.reach_is; work_is = rw z at ri.work_is }

@@ -14,7 +14,7 @@ use Rattle.laws.proofs.Lists.{length-lower_by, lower_by_none, lower_by_more}
 use Rattle.paper.specs.Timetable.{Tables}
 use Rattle.paper.specs.Rows.{label}
 use Rattle.paper.proofs.Steps.{label_read}
-use Rattle.scan.specs.Walk.{walk_below, Walkable, walked_on, Walked}
+use Rattle.scan.specs.Walk.{walk_below, Walkable, walked_on}
 
 pub record Walking (T : Tables) (reach next₀ next : List ℕ) (work w : ℕ) : Type 0 where
   pub below : w ≤ T.walks
@@ -65,6 +65,3 @@ module _ (T : Tables) (reach next₀ : List ℕ) where
               (lower_by_more (walk_below T.t5 w reach) (walk_below T.t5 (w + 1) reach) next₀ (to h) (min (arrives h) mark) (pre.standing w h).to< (at_to h) (elsewhere h));
           counted = omega (arith, wa.counted);
         }
-
-    pub walking_end : T.walks ≤ w → Walked T reach next₀ next work
-    walking_end h = let z : w ≡ T.walks = omega (arith, wa.below) in record { next_is = rw z at wa.next_is; work_is = omega (arith, wa.counted) }

@@ -1,5 +1,5 @@
 -- 6: the search through the lengths is the definition's, and where it finds nothing each table has its full size.
-use mathlib.Core.Path.{◌≡◌, refl}
+use mathlib.Core.Path.{◌≡◌}
 use mathlib.Core.Bool.{Bool, false}
 use mathlib.Core.List.{List}
 use Rattle.std.specs.Prelude.{Option, Some, None, zip, position, option_map}
@@ -16,8 +16,8 @@ use Rattle.laws.specs.Below.{given, first_found}
 use Rattle.laws.proofs.Tests.{by_test}
 use Rattle.laws.proofs.Found.{given_true, given_false, first_found_is, first_found_none, first_found_never}
 use Rattle.paper.specs.Timetable.{Tables, full_sizes}
-use Rattle.paper.specs.Rules.{refused_by}
 use Rattle.paper.specs.Reply.{short_table, lengths_of}
+use Rattle.paper.proofs.Checks.{refused_none}
 use Rattle.paper.proofs.Lowest.{given_nothing}
 use Rattle.timetable.specs.Needed.{Full}
 
@@ -70,14 +70,9 @@ module _ (lengths : List ℕ) where
       ))
 
 module _ (T : Tables) where
-  nothing : (x : Option ℕ) → refused_by 6 x ≡ None → x ≡ None
-  unfolding refused_by
-  nothing None e = refl
-  nothing (Some p) e = cc
-
   long_enough : (i : ℕ) → i < 5 → short_table (lengths_of T) ≡ None → get_or full_sizes i 0 ≤ get_or (lengths_of T) i 0
   unfolding short_table
-  long_enough i l n = ltb-false _ _ (given_nothing _ (i + 1) (first_found_never 5 _ (nothing _ n) i l))
+  long_enough i l n = ltb-false _ _ (given_nothing _ (i + 1) (first_found_never 5 _ (refused_none 6 _ n) i l))
 
   pub full_of : short_table (lengths_of T) ≡ None → Full T
   full_of n =
