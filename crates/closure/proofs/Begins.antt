@@ -1,15 +1,14 @@
 -- 11: where the walks of a stop begin. The walks rise, so those of one stop stand together, and no two go the same way.
 use mathlib.Core.Path.{◌≡◌, sym, ◌∙◌}
 use mathlib.Core.Logic.{⊎_elim}
-use mathlib.Core.Bool.{Bool, true, false}
-use Rattle.std.specs.Prelude.{Option, Some, None, MatchOption, unwrap_or}
+use mathlib.Core.Bool.{Bool}
 use mathlib.Core.List.{List}
 use Prim.Native.Nat.{ℕ, ◌+◌, ◌*◌, ◌≤◌, ◌<◌}
 use native.Mathlib.Omega.{arith}
 use lib.Dec.{leb}
 use lib.ListN.{length, get_or, set, length-set}
 use lib.Seq.{get_or-set_same, get_or-set_other}
-use borrow.Author.Tests.{leb-true, leb-false, lt-leb}
+use borrow.Author.Tests.{leb-true, leb-false, le-leb, lt-leb}
 use Rattle.laws.proofs.Tests.{by_lt}
 use Rattle.laws.proofs.Checking.{climb_over}
 use Rattle.laws.proofs.Below.{Passed, first_below_le, first_below_not, first_below_hit, first_below_is, first_below-only}
@@ -21,21 +20,17 @@ abbrev pub not_before : Tables → ℕ → ℕ → Bool
 not_before T s w = leb s (walk_from T w)
 
 module _ (T : Tables) (s : ℕ) where
-  past_passed : (k : ℕ) → BeginsPast T s k → Passed (not_before T s) k
+  pub past_passed : (k : ℕ) → BeginsPast T s k → Passed (not_before T s) k
   past_passed k h w l = lt-leb s (walk_from T w) (h.past w l)
 
-  -- as a search through the walks from k on tells it
-  pub begin_sought : (k : ℕ) (found : Option ℕ) → BeginsPast T s k →
-      MatchOption found ((w : ℕ) → k ≤ w → w < T.walks → not_before T s w ≡ false)
-      (λ w. (k ≤ w) × (w < T.walks) × (not_before T s w ≡ true) × ((v : ℕ) → k ≤ v → v < w → not_before T s v ≡ false))
-      → unwrap_or found T.walks ≡ begin_of T s
+  pub begin_here : (w : ℕ) → w < T.walks → Passed (not_before T s) w → s ≤ walk_from T w → w ≡ begin_of T s
   unfolding begin_of
-  begin_sought k None h f =
-      sym (first_below-only T.walks (not_before T s) T.walks (omega arith)
-      (λ w l. by_lt w k (past_passed k h w) (λ m. f w m l)) (λ l. absurd (omega arith)))
-  begin_sought k (Some x) h f =
-      sym (first_below_is T.walks (not_before T s) x f.1 f.2
-      (λ w l. by_lt w k (past_passed k h w) (λ m. f.3 w m l)))
+  begin_here w l h t = sym (first_below_is T.walks (not_before T s) w l (le-leb s (walk_from T w) t) h)
+
+  pub begin_end : (w : ℕ) → T.walks ≤ w → w ≤ T.walks → Passed (not_before T s) w → T.walks ≡ begin_of T s
+  unfolding begin_of
+  begin_end w l u h =
+      sym (first_below-only T.walks (not_before T s) T.walks (omega arith) (λ x m. h x (omega arith)) (λ m. absurd (omega arith)))
 
   pub begin_most : begin_of T s ≤ T.walks
   unfolding begin_of

@@ -14,33 +14,34 @@ fn begin_from(tables: Lent, s: u32, k: u32) -> u32
     ensures { result ≡ begin_of (lent tables.entry) s }
 {
     let end = tables.heads.walks;
-    (k..end)
-        .find(|w| tables.walks[(*w as usize) * 3] >= s)
-        .unwrap_or(end)
+    for w in k..end {
+        if tables.walks[(w as usize) * 3] >= s {
+            return w;
+        }
+    }
+    end
 }
 
-// Where the walks of each stop begin, and after the last stop where they end.
-fn begins_of(tables: Lent) -> [u32; 257]
+// Where the walks of each stop begin, and after the last stop where they end. An array that was answered would be copied.
+fn begins_of(tables: Lent, begins: &mut [u32; 257])
     requires { Walked (lent tables) }
-    ensures { Begins (lent tables.entry) result }
+    ensures { Begins (lent tables.entry) begins.new }
 {
-    let mut begins: [u32; 257] = [0; 257];
     let mut k: u32 = 0;
     for s in 0..257 {
         k = begin_from(tables, s, k);
         begins[s as usize] = k;
     }
-    begins
 }
 
 // The seconds to walk from a to each stop: 0 to itself, and the mark where there is no walk, since an Option would
 // take twice the stack.
-fn seconds_from(tables: Lent, begins: &[u32], a: u32) -> [u32; 256]
+fn seconds_from(tables: Lent, begins: &[u32], a: u32, seconds: &mut [u32; 256])
     requires { FromStop (lent tables) begins.now a }
-    ensures { SecondsFrom (lent tables.entry) a result }
+    ensures { SecondsFrom (lent tables.entry) a seconds.new }
 {
     let walks = tables.walks;
-    let mut seconds: [u32; 256] = [MARK; 256];
+    seconds.fill(MARK);
     seconds[a as usize] = 0;
     let first = begins[a as usize];
     let end = begins[(a + 1) as usize];
@@ -48,7 +49,6 @@ fn seconds_from(tables: Lent, begins: &[u32], a: u32) -> [u32; 256]
         let at = (w as usize) * 3;
         seconds[walks[at + 1] as usize] = walks[at + 2];
     }
-    seconds
 }
 
 // Walk v, a to b, is followed by a walk b to c, and no walk a to c takes no longer than both.
@@ -83,14 +83,16 @@ pub fn lowest_open(tables: Lent) -> Option<u32>
     if count == 0 {
         return None;
     }
-    let begins = begins_of(tables);
+    let mut begins = [0; 257];
+    begins_of(tables, &mut begins);
     let mut from = walks[0];
-    let mut seconds = seconds_from(tables, &begins, from);
+    let mut seconds = [0; 256];
+    seconds_from(tables, &begins, from, &mut seconds);
     for v in 0..count {
         let a = walks[(v as usize) * 3];
         if a != from {
             from = a;
-            seconds = seconds_from(tables, &begins, a);
+            seconds_from(tables, &begins, a, &mut seconds);
         }
         if opens_at(tables, &begins, &seconds, v) {
             return Some(v);

@@ -55,9 +55,9 @@ fn run_line(rt: &impl Print, line: &[u8]) -> io::Result<()> {
     }
 }
 
-pub fn cases(rt: &(impl Input + Print)) -> io::Result<()> {
+pub fn cases(input: &impl Input, rt: &impl Print) -> io::Result<()> {
     let mut text = [0; 8192];
-    let n = fill_from(&mut rt.reader(), &mut text);
+    let n = fill_from(&mut input.reader(), &mut text);
     for line in text[..n].split_inclusive(|byte| *byte == b'\n') {
         run_line(rt, line)?;
     }

@@ -16,10 +16,16 @@ mod times;
 mod trials;
 mod walks;
 
+use spilling::Spill;
 use std::io;
 
+// Cases, damages and trials.
+fn run(input: &impl Input, rt: &impl Print) -> io::Result<()> {
+    cases::cases(input, rt)?;
+    damage::damages(rt)?;
+    trials::trials(rt)
+}
+
 fn main(rt: HostRuntime) -> io::Result<()> {
-    cases::cases(&rt)?;
-    damage::damages(&rt)?;
-    trials::trials(&rt)
+    run(&rt, &Spill { rt: &rt })
 }

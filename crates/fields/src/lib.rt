@@ -45,3 +45,30 @@ impl Fields<'_> {
         (self.byte(0) as usize == mark / 256) & (self.byte(1) as usize == mark % 256)
     }
 }
+
+// The reader of the record at `at`.
+pub fn fields_at<'a>(feed: &'a [u8], at: usize) -> Fields<'a>
+    ensures { (result.feed ≡ feed.entry) × (result.at ≡ at) }
+{
+    Fields { feed, at }
+}
+
+// ---- the same with plain parameters
+
+pub fn begins_in(feed: &[u8], at: usize, mark: usize) -> bool
+    ensures { result ≡ marked feed.now (length feed.now) at 2 (mark / 256) (mark % 256) }
+{
+    fields_at(feed, at).begins(mark)
+}
+
+pub fn byte_in(feed: &[u8], at: usize, off: usize) -> u32
+    ensures { Field (byte_of feed.now (at + off)) 256 result }
+{
+    fields_at(feed, at).byte(off)
+}
+
+pub fn two_in(feed: &[u8], at: usize, off: usize) -> u32
+    ensures { Field (two_of feed.now (at + off)) 65536 result }
+{
+    fields_at(feed, at).two(off)
+}

@@ -35,7 +35,8 @@ pub fn parse(input: &[u8]) -> Option<Question>
     let (time, fourth) = number_at(input, third, b' ')?;
     let (limit, fifth) = number_at(input, fourth, b' ')?;
     let (budget, end) = number_at(input, fifth, b'\n')?;
-    if 81 < end {
+    let long = 81 < end;
+    if long {
         return None;
     }
     Some(Question {

@@ -14,9 +14,9 @@ use scan::walks::walk;
 
 // What a round cost, and whether it improved a stop.
 #[derive(Clone, Copy)]
-struct Progress {
-    work: u32,
-    improved: bool,
+pub struct Progress {
+    pub work: u32,
+    pub improved: bool,
 }
 
 // Round k + 1: boards by row k alone, walks on from the rides' own arrivals, and writes row k + 1.

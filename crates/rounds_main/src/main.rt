@@ -9,6 +9,7 @@ ghost use Rattle.rounds_main.specs.Network.{Begun, Askable, Rowed};
 
 use full_tables::Tables;
 use paper::{Heads, Lent, MARK, Question};
+use spilling::Spill;
 use std::io;
 
 // A table of full size that begins with these values.
@@ -151,8 +152,13 @@ fn back_to_start(rt: &impl Print) -> io::Result<()> {
     ask(rt, network, q)
 }
 
+// 01's networks one after the other.
+fn run(rt: &impl Print) -> io::Result<()> {
+    bridge(rt)?;
+    long_halt(rt)?;
+    back_to_start(rt)
+}
+
 fn main(rt: HostRuntime) -> io::Result<()> {
-    bridge(&rt)?;
-    long_halt(&rt)?;
-    back_to_start(&rt)
+    run(&Spill { rt: &rt })
 }

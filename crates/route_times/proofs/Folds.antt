@@ -6,9 +6,10 @@ use Prim.Native.Nat.{ℕ, suc, ◌+◌, ◌*◌, ◌-◌, ◌≤◌, ◌<◌}
 use native.Mathlib.Nat.{mul-suc, add-mul}
 use native.Mathlib.Omega.{arith}
 use lib.Dec.{leb}
-use lib.ListN.{length, get_or}
+use lib.ListN.{length, get_or, take, length-take}
 use borrow.Author.Tests.{leb-true, not-false}
 use Rattle.std.specs.Prelude.{fold, zip}
+use Rattle.std.proofs.Common.{get_or-take}
 use Rattle.std.proofs.lemmas.Slice.Zip.{length-zip, get_or-zip}
 use Rattle.laws.specs.Lists.{part}
 use Rattle.laws.proofs.Tests.{cell_in, and_both}
@@ -56,23 +57,28 @@ module _ (R : Route) where
       let z : R.m ≡ suc (R.m - 1) = omega arith in
       omega (arith, ap (λ (k : ℕ). R.n * k) z, mul-suc R.n (R.m - 1))
 
-  -- of a table of times, what stands from the second trip on
+  -- of a table of times, what stands before the last trip, and what stands from the second trip on
+  abbrev pub earlier : List ℕ → List ℕ
+  earlier times = take (R.n * R.m - R.n) times
+
   abbrev pub later : List ℕ → List ℕ
   later times = part R.n (R.n * R.m) times
 
-  rises : InRoute R → (times : List ℕ) → R.n * R.m ≤ length times → ordered times (later times) ≡ true →
+  rises : InRoute R → (times : List ℕ) → R.n * R.m ≤ length times → ordered (earlier times) (later times) ≡ true →
       (j i : ℕ) → j + 1 < R.m → i < R.n → get_or times (j * R.n + i) 0 ≤ get_or times ((j + 1) * R.n + i) 0
   rises h times long e j i l b =
       let at = j * R.n + i in
       let x : at < R.n * (R.m - 1) = cell_in R.n (R.m - 1) j i (omega arith) b in
       let a = all_events h in
       let n : at < length (later times) = omega (arith, length_part times R.n (R.n * R.m) long) in
+      let o : at < length (earlier times) = omega (arith, length-take (R.n * R.m - R.n) times, long) in
+      let p : get_or (earlier times) at 0 ≡ get_or times at 0 = get_or-take (R.n * R.m - R.n) times at 0 (omega arith) in
       let q : get_or (later times) at 0 ≡ get_or times (R.n + at) 0 = get_d_part times R.n (R.n * R.m) at 0 (omega arith) in
       let z : R.n + at ≡ (j + 1) * R.n + i = omega (arith, next_trip R.n j i) in
-      rw (q, z) at (in_order times (later times) e at (omega arith) n)
+      rw (p, q, z) at (in_order (earlier times) (later times) e at o n)
 
-  pub order_told : {arrive depart : Bool} → InRoute R → arrive ≡ ordered R.arrivals (later R.arrivals) →
-      depart ≡ ordered R.departures (later R.departures) → OrderTold R (not (arrive && depart))
+  pub order_told : {arrive depart : Bool} → InRoute R → arrive ≡ ordered (earlier R.arrivals) (later R.arrivals) →
+      depart ≡ ordered (earlier R.departures) (later R.departures) → OrderTold R (not (arrive && depart))
   order_told {arrive} {depart} h a d =
       record {
         right = λ f j i l b. let x = and_both arrive depart (not-false _ f) in

@@ -121,7 +121,7 @@ module _ (R : Route) where
           next = within j i l;
         }
 
-  pub times_told : {ends ok : Bool} {all between : ℕ} → InRoute R → EndsTold R ends → ok ≡ ordered (take (R.n * R.m) R.arrivals) R.departures →
+  pub times_told : {ends ok : Bool} {all between : ℕ} → InRoute R → EndsTold R ends → ok ≡ ordered (take (R.n * R.m) R.arrivals) (take (R.n * R.m) R.departures) →
       all ≡ falls_to 1 (R.n * R.m - 1) → between ≡ falls_to R.n (R.m - 1) → TimesTold R (ends || not ok || not (eqb all between))
   times_told {ends} {ok} {all} {between} pre e h a b =
       record {
@@ -130,8 +130,8 @@ module _ (R : Route) where
             let y = or_none ends (not ok) x.0 in
             let z : all ≡ between = eqb-true all between (not-false _ x.1) in
             event_right pre
-            (λ k l. let o = in_order (take (R.n * R.m) R.arrivals) R.departures (sym h ∙ not-false _ y.1) k
-            (omega (arith, length-take (R.n * R.m) R.arrivals, pre.arrivals≥)) (omega (arith, pre.departures≥)) in
-            rw get_or-take at o)
+            (λ k l. let o = in_order (take (R.n * R.m) R.arrivals) (take (R.n * R.m) R.departures) (sym h ∙ not-false _ y.1) k
+            (omega (arith, length-take (R.n * R.m) R.arrivals, pre.arrivals≥)) (omega (arith, length-take (R.n * R.m) R.departures, pre.departures≥)) in
+            rw (get_or-take, get_or-take) at o)
             (e.right y.0) (sym a ∙ z ∙ b) j i;
       }

@@ -84,21 +84,23 @@ fn times_wrong(times: Times) -> bool
 {
     let events = times.n * times.m;
     let ends = ends_wrong(times);
-    let halts = !in_order(&times.arrivals[..events], times.departures);
+    let halts = !in_order(&times.arrivals[..events], &times.departures[..events]);
     let all = falls(times, 1, events - 1);
     let between = falls(times, times.n, times.m - 1);
     ends | halts | (all != between)
 }
 
-// 9 on one route: whether any trip overtakes. The next trip's event stands n further on.
+// 9 on one route: whether any trip overtakes. The next trip's event stands n further on. The two parts of a table are equally
+// long, so that one end is asked at each step.
 fn order_wrong(times: Times) -> bool
     requires { InRoute (timed times) }
     ensures { OrderTold (timed times.entry) result }
 {
     let n = times.n;
     let events = n * times.m;
-    let arrive = in_order(times.arrivals, &times.arrivals[n..events]);
-    let depart = in_order(times.departures, &times.departures[n..events]);
+    let last = events - n;
+    let arrive = in_order(&times.arrivals[..last], &times.arrivals[n..events]);
+    let depart = in_order(&times.departures[..last], &times.departures[n..events]);
     !(arrive & depart)
 }
 

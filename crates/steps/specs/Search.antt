@@ -1,5 +1,5 @@
 -- The search for the first last step: what its parts ask and answer.
-use Rattle.std.specs.Prelude.{◌≡◌, ◌≢◌, Bool, false, not, cond, ◌&&◌, List, ℕ, zero, suc, ◌+◌, ◌*◌, ◌≤◌, ◌<◌, eqb, leb, ltb, length, get_or, Option, Some, None}
+use Rattle.std.specs.Prelude.{◌≡◌, ◌≢◌, Bool, true, false, not, cond, ◌&&◌, List, ℕ, zero, suc, ◌+◌, ◌-◌, ◌*◌, ◌≤◌, ◌<◌, eqb, leb, ltb, length, get_or, Option, Some, None}
 use Rattle.laws.specs.Below.{mark, first_below}
 use Rattle.laws.specs.Lists.{tab}
 use Rattle.paper.specs.Timetable.{Tables}
@@ -74,10 +74,12 @@ visit_at t2 x s i = eqb (stop_in t2 x i) s
 abbrev pub Unvisited : List ℕ → Extent → ℕ → Type 0
 Unvisited t2 x s = (i : ℕ) → i < x.n → visit_at t2 x s i ≡ false
 
--- none before `first` is, and none from `past` on
+-- `first` is and none before it, and the last before `past` is and none from there on
 pub record Between (t2 : List ℕ) (x : Extent) (s first past : ℕ) : Type 0 where
   pub first< : first < x.n
   pub past≤ : past ≤ x.n
+  pub at_first : visit_at t2 x s first ≡ true
+  pub at_last : visit_at t2 x s (past - 1) ≡ true
   pub before : (i : ℕ) → i < first → visit_at t2 x s i ≡ false
   pub after : (i : ℕ) → past ≤ i → i < x.n → visit_at t2 x s i ≡ false
 

@@ -2,13 +2,12 @@
 // place.
 #![tactic(auto)]
 
-ghost use Rattle.std.specs.Prelude.{◌<◌};
-
 mod tables;
 
 use crate::tables::Network;
 use full_tables::Table;
 use paper::Lent;
+use spilling::Spill;
 use std::io;
 
 fn print_check(rt: &impl Print, tables: Lent) -> io::Result<()> {
@@ -19,19 +18,14 @@ fn print_check(rt: &impl Print, tables: Lent) -> io::Result<()> {
 }
 
 // One route of n positions and m trips that halts at stop 0 only, and one walk from 0 to 1.
-fn one_route(mut network: Network, n: u32, m: u32) -> Network
-    requires { 0 < n }
-{
+fn one_route(network: &mut Network, n: u32, m: u32) {
     network.set_route(0, [n, m, 0, 0]);
     network.set_times(0, n);
     network.set_walk(0, [0, 1, 10]);
-    network
 }
 
 // A route of 64 positions and 31 trips, and one after it.
-fn two_routes(rt: &impl Print, n: u32, m: u32) -> io::Result<()>
-    requires { 0 < n }
-{
+fn two_routes(rt: &impl Print, n: u32, m: u32) -> io::Result<()> {
     let mut network = Network::new(1, 2, 0);
     network.set_route(0, [64, 31, 0, 0]);
     network.set_route(1, [n, m, 64, 1984]);
@@ -51,9 +45,7 @@ fn many_routes(rt: &impl Print, count: u32) -> io::Result<()> {
 }
 
 // Walk 0 to 1 of 10 s, walk 0 to 2, and 1 to 2 of 10 s as walk `last`, of so many between three stops.
-fn three_walks(rt: &impl Print, seconds: u32, last: usize, count: u32) -> io::Result<()>
-    requires { last < 512 }
-{
+fn three_walks(rt: &impl Print, seconds: u32, last: usize, count: u32) -> io::Result<()> {
     let mut network = Network::new(3, 0, count);
     network.set_walk(0, [0, 1, 10]);
     network.set_walk(1, [0, 2, seconds]);
@@ -63,7 +55,8 @@ fn three_walks(rt: &impl Print, seconds: u32, last: usize, count: u32) -> io::Re
 
 // A route of two positions and one trip, with one number of some tables changed.
 fn changed(rt: &impl Print, tables: &[Table], at: usize, value: u32) -> io::Result<()> {
-    let mut network = one_route(Network::new(2, 1, 1), 2, 1);
+    let mut network = Network::new(2, 1, 1);
+    one_route(&mut network, 2, 1);
     for table in tables {
         network.set(*table, at, value);
     }
@@ -71,17 +64,16 @@ fn changed(rt: &impl Print, tables: &[Table], at: usize, value: u32) -> io::Resu
 }
 
 // A route of n positions and m trips.
-fn counts(rt: &impl Print, n: u32, m: u32) -> io::Result<()>
-    requires { 0 < n }
-{
-    print_check(rt, one_route(Network::new(1, 1, 0), n, m).lent())
+fn counts(rt: &impl Print, n: u32, m: u32) -> io::Result<()> {
+    let mut network = Network::new(1, 1, 0);
+    one_route(&mut network, n, m);
+    print_check(rt, network.lent())
 }
 
 fn heads_alone(rt: &impl Print, stops: u32, routes: u32, walks: u32) -> io::Result<()> {
-    print_check(
-        rt,
-        one_route(Network::new(stops, routes, walks), 2, 1).lent(),
-    )
+    let mut network = Network::new(stops, routes, walks);
+    one_route(&mut network, 2, 1);
+    print_check(rt, network.lent())
 }
 
 fn times_and_seconds(rt: &impl Print) -> io::Result<()> {
@@ -160,13 +152,18 @@ fn largest(rt: &impl Print) -> io::Result<()> {
     Ok(())
 }
 
+// All edges, in the order in which they are printed.
+fn run(rt: &impl Print) -> io::Result<()> {
+    times_and_seconds(rt)?;
+    route_counts(rt)?;
+    head_counts(rt)?;
+    one_short(rt)?;
+    largest(rt)?;
+    three_walks(rt, 0, 1, 2)?;
+    three_walks(rt, 20, 2, 3)?;
+    three_walks(rt, 21, 2, 3)
+}
+
 fn main(rt: HostRuntime) -> io::Result<()> {
-    times_and_seconds(&rt)?;
-    route_counts(&rt)?;
-    head_counts(&rt)?;
-    one_short(&rt)?;
-    largest(&rt)?;
-    three_walks(&rt, 0, 1, 2)?;
-    three_walks(&rt, 20, 2, 3)?;
-    three_walks(&rt, 21, 2, 3)
+    run(&Spill { rt: &rt })
 }

@@ -1,6 +1,4 @@
 // Small timetables, in tables of their full size.
-ghost use Rattle.std.specs.Prelude.{◌<◌, ◌≤◌};
-
 use full_tables::{Table, Tables};
 use paper::{Heads, Lent};
 
@@ -10,12 +8,11 @@ pub struct Network {
     pub tables: Tables,
 }
 
-// From its first event on every time is its position, in trips of n that are all equal.
-fn fill_times(times: &mut [u32], n: u32)
-    requires { 0 < n }
-{
-    for (e, time) in times.iter_mut().enumerate() {
-        *time = (e % n as usize) as u32;
+// From event `first` on every time is its position, in trips of n that are all equal; with no position it is 0.
+pub fn fill_times(times: &mut [u32], first: usize, n: u32) {
+    let n = n.max(1) as usize;
+    for (e, time) in times.iter_mut().take(2048).skip(first).enumerate() {
+        *time = (e % n) as u32;
     }
 }
 
@@ -36,27 +33,24 @@ impl Network {
         self.tables.lent(self.heads)
     }
 
-    // A route's n, m, first position and first event.
-    pub fn set_route(&mut self, r: usize, route: [u32; 4])
-        requires { r < 64 }
-    {
-        self.tables.routes[r * 4..r * 4 + 4].copy_from_slice(&route);
+    // A route's n, m, first position and first event, if the table has so many routes.
+    pub fn set_route(&mut self, r: usize, route: [u32; 4]) {
+        if let Some(row) = self.tables.routes.chunks_exact_mut(4).nth(r) {
+            row.copy_from_slice(&route);
+        }
     }
 
-    // A walk's from, to and seconds.
-    pub fn set_walk(&mut self, w: usize, walk: [u32; 3])
-        requires { w < 512 }
-    {
-        self.tables.walks[w * 3..w * 3 + 3].copy_from_slice(&walk);
+    // A walk's from, to and seconds, if the table has so many walks.
+    pub fn set_walk(&mut self, w: usize, walk: [u32; 3]) {
+        if let Some(row) = self.tables.walks.chunks_exact_mut(3).nth(w) {
+            row.copy_from_slice(&walk);
+        }
     }
 
     // The times from an event on, at which trips of n positions begin.
-    pub fn set_times(&mut self, first: usize, n: u32)
-        requires event { first ≤ 2048 }
-        requires some { 0 < n }
-    {
-        fill_times(&mut self.tables.arrivals[first..], n);
-        fill_times(&mut self.tables.departures[first..], n);
+    pub fn set_times(&mut self, first: usize, n: u32) {
+        fill_times(&mut self.tables.arrivals, first, n);
+        fill_times(&mut self.tables.departures, first, n);
     }
 
     // One number of a table is another, if the table has so many.

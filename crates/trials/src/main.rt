@@ -12,6 +12,7 @@ use networks::network::{Network, build};
 use networks::questions::{question, with_budget};
 use paper::{Answer, Lent, Question};
 use second::steps::Step;
+use spilling::Spill;
 use std::io;
 
 const NETWORKS: u32 = 4000;
@@ -102,10 +103,15 @@ fn report(rt: &impl Print, tallies: &Tallies) -> io::Result<()> {
     println!(rt; "differences {}", tallies.differences)
 }
 
-fn main(rt: HostRuntime) -> io::Result<()> {
+// All networks, and then what was counted.
+fn run(rt: &impl Print) -> io::Result<()> {
     let mut tallies = Tallies::default();
     for number in 0..NETWORKS {
-        try_network(&rt, &mut tallies, number)?;
+        try_network(rt, &mut tallies, number)?;
     }
-    report(&rt, &tallies)
+    report(rt, &tallies)
+}
+
+fn main(rt: HostRuntime) -> io::Result<()> {
+    run(&Spill { rt: &rt })
 }

@@ -1,14 +1,17 @@
--- `closure::begin_from`: the search is the definition's, since no walk before k is from so late a stop.
-use Rattle.std.proofs.Common.{rules, ◌≡◌, true, false, unwrap_or, ◌∙◌}
-use Rattle.std.proofs.lemmas.Iterator.{first_from_Range}
-use Rattle.paper.specs.Timetable.{lent}
-use Rattle.closure.proofs.Begins.{not_before, begin_sought}
+use borrow.Author.Rules.{rules}
+use borrow.Author.Tests.{lt-leb}
+use Rattle.laws.proofs.Below.{passed_more}
+use Rattle.closure.proofs.Begins.{past_passed, begin_here, begin_end}
 use Rattle.closure.proofs.begin_from.Goals as goal
 
+pub loop-w-init : goal.loop-w-init
+loop-w-init c = (c.requires.upto, past_passed _ _ _ c.requires)
+
+pub returns-then-tables-w : goal.returns-then-tables-w
+returns-then-tables-w c = begin_here _ _ _ c.loop-w-test.true c.loop-w.invariant.1 c.if-tables-w.true
+
+pub loop-w-preserved : goal.loop-w-preserved
+loop-w-preserved c = (search rules, passed_more _ _ c.loop-w.invariant.1 (lt-leb _ _ c.if-tables-w.false))
+
 pub returns : goal.returns
-returns c =
-    let test = not_before (lent c.args.tables) c.args.s in
-    let e : c.unwrap_or.result ≡ unwrap_or c.find.result c.args.tables.heads.walks = search rules in
-    e ∙ begin_sought _ _ _ _ c.requires
-    (first_from_Range _ _ _ c.find.result (λ w. test w ≡ true) (λ w. test w ≡ false) c.find.ensures.ran
-    (λ w q k. search rules) (λ w q k. search rules))
+returns c = begin_end _ _ _ c.loop-w-test.false c.loop-w.invariant.0 c.loop-w.invariant.1

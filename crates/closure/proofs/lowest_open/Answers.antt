@@ -13,7 +13,7 @@ turned :
     → let T = lent c.args.tables in Turned T (walk_from T c.loop-v.v) c.if-a-from.from c.if-a-from.seconds
 turned c =
     elim c.if-a-from.branch [
-      | then-a-from w ↦ turned_new _ _ w.from-is w.seconds-is w.seconds_from-seconds-then-a-from.ensures
+      | then-a-from w ↦ turned_new _ _ w.from-is w.seconds-is w.seconds_from-then-a-from.ensures
       | else-a-from w ↦ turned_old _ _ c.loop-v.invariant w.if-a-from.false w.from-is w.seconds-is
     ]
 
@@ -28,7 +28,7 @@ pub opens_at-requires : goal.opens_at-requires
 opens_at-requires c =
     record {
       walked = c.requires;
-      starts = c.begins_of-begins.ensures;
+      starts = c.begins_of.ensures;
       below = c.loop-v-test.true;
       near = (turned (goal.at.opens_at-requires c).Joined-a-from).near;
     }

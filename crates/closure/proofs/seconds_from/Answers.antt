@@ -1,7 +1,8 @@
 use mathlib.Core.Path.{◌≡◌}
+use borrow.Author.Rules.{rules}
 use Prim.Native.Nat.{◌+◌}
 use native.Mathlib.Omega.{arith}
-use lib.ListN.{get_or}
+use lib.ListN.{get_or, length}
 use Rattle.paper.specs.Timetable.{Tables, lent}
 use Rattle.closure.specs.Closed.{begin_of}
 use Rattle.closure.proofs.Seconds.{near_start, Turn, turn, near_next, near_end}
@@ -22,7 +23,9 @@ reads c =
     c.loop-w-test.true
 
 pub loop-w-init : goal.loop-w-init
-loop-w-init c = near_start _ _ c.requires.stop (c.requires.starts.is c.args.a (omega (arith, c.requires.stop)))
+loop-w-init c =
+    let all : length c.args.seconds.now ≡ 256 = search rules in
+    rw (c.fill.ensures.after (λ y h. h), all) (near_start _ _ c.requires.stop (c.requires.starts.is c.args.a (omega (arith, c.requires.stop))))
 
 pub bounds-walks-at : goal.bounds-walks-at
 bounds-walks-at c = let t = reads (goal.at.bounds-walks-at c).In-loop-w in omega (arith, t.stands.small, t.stands.table)

@@ -49,16 +49,16 @@ returns-in_err-budget c =
       ← c.in_err-budget.ensures,
     ) at (parse_is c.args.input.now)
 
-pub returns-then-end-gt81 : goal.returns-then-end-gt81
+pub returns-then-long : goal.returns-then-long
 unfolding chain
-returns-then-end-gt81 c =
+returns-then-long c =
     rw (
       ← c.in_ok-start.ensures,
       ← c.in_ok-target.ensures,
       ← c.in_ok-time.ensures,
       ← c.in_ok-limit.ensures,
       ← c.in_ok-budget.ensures,
-      lt-leb _ _ c.if-end-gt81.true,
+      lt-leb _ _ c.if-long.true,
     ) at (parse_is c.args.input.now)
 
 pub returns : goal.returns
@@ -70,5 +70,5 @@ returns c =
       ← c.in_ok-time.ensures,
       ← c.in_ok-limit.ensures,
       ← c.in_ok-budget.ensures,
-      le-leb _ _ c.if-end-gt81.false,
+      le-leb _ _ c.if-long.false,
     ) at (parse_is c.args.input.now)
