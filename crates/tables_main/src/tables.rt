@@ -8,7 +8,8 @@ pub struct Network {
     pub tables: Tables,
 }
 
-// From event `first` on every time is its position, in trips of n that are all equal; with no position it is 0.
+// From event `first` to the 2,048th, which ends a table, every time is its position, in trips of n that are all equal; with no
+// position it is 0.
 pub fn fill_times(times: &mut [u32], first: usize, n: u32) {
     let n = n.max(1) as usize;
     for (e, time) in times.iter_mut().take(2048).skip(first).enumerate() {
